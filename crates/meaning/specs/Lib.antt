@@ -1,0 +1,1 @@
+-- The definitions of the bench library, in the words of the request.

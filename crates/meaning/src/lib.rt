@@ -1,0 +1,1 @@
+// What a reader must believe: the answer types that more than one crate uses.
