@@ -1,1 +1,8 @@
--- The definitions of the bench library, in the words of the request.
+pub mod Expr
+pub mod Lists
+pub mod Word
+pub mod Normal
+pub mod Reading
+pub mod Strong
+pub mod Sets
+pub mod Conflict
