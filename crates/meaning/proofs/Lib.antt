@@ -1,6 +1,0 @@
-pub mod Place
-pub mod Facts
-pub mod WordReading
-pub mod Steps
-pub mod FirstAfter
-pub mod Unique
