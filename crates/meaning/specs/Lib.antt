@@ -6,3 +6,12 @@ pub mod Reading
 pub mod Strong
 pub mod Sets
 pub mod Conflict
+pub mod Bytes
+pub mod Node
+pub mod File
+pub mod State
+pub mod Record
+pub mod Loose
+pub mod Codes
+pub mod Numbers
+pub mod Promises

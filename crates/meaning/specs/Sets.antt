@@ -34,9 +34,9 @@ After (sequence l r) c = After r c ⊎ (So (nullable r) × (After l c ⊎ (Start
 After (repeat b lower upper) c = After b c ⊎ (Flexible (low (nullable b) lower) upper × First b c)
 
 -- first as worded: the code begins a word of the part
-pub FirstWorded : Expr → ℕ → Type 0
+unfoldable pub FirstWorded : Expr → ℕ → Type 0
 FirstWorded e c = (w : List ℕ) × Word e (c ∷ w)
 
 -- after as worded: v and v b w are both words of the part, for a non-empty v and some w
-pub AfterWorded : Expr → ℕ → Type 0
+unfoldable pub AfterWorded : Expr → ℕ → Type 0
 AfterWorded e b = (v w : List ℕ) × (1 ≤ length v) × Word e v × Word e (v ++ (b ∷ w))
