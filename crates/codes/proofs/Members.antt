@@ -8,12 +8,8 @@ use native.Mathlib.Omega.{arith}
 use lib.Bits.{and-lt, or-lt}
 use lib.Pow.{pow-lt, pow-mono, pow-pos}
 use Rattle.codes.specs.Codes.{Bounded, Codes, Has, Least, Shared, both, either, limit, nothing, only}
-use Rattle.codes.proofs.Digits.{digit-of-and, digit-of-or, digit-of-power, digit-past, digit-under-power, same-digits}
-
--- a code is in a set or it is not
-pub has-or-not : (s : Codes) (c : ℕ) → Has s c ⊎ ¬ Has s c
-unfolding Has
-has-or-not s c = elim (ℕ-discrete (s / 2 ^ c % 2) 1) [ yes h ↦ inl h | no h ↦ inr h ]
+use Rattle.meaning.proofs.Digits.{digit-of-and, digit-of-or, digit-of-power, digit-past, digit-under-power}
+pub use Rattle.meaning.proofs.CodeSets.{has-or-not, same-codes}
 
 -- ---- which codes are in a set
 
@@ -74,14 +70,6 @@ has-below s c w h = below (decLe limit c)
     below : Dec (limit ≤ c) → c < limit
     below (yes l) = absurd (omega (arith, digit-past s c (lt-of-lt-of-le w (pow-mono l))))
     below (no l) = omega arith
-
-pub same-codes : (a b : Codes) → Bounded a → Bounded b → ((c : ℕ) → Has a c ↔ Has b c) → a ≡ b
-unfolding Has
-same-codes a b ha hb h = same-digits limit a b ha hb (λ c. same c (has-or-not a c))
-  where
-    same : (c : ℕ) → Has a c ⊎ ¬ Has a c → a / 2 ^ c % 2 ≡ b / 2 ^ c % 2
-    same c (inl p) = let q = h c .0 p in omega arith
-    same c (inr n) = let m : b / 2 ^ c % 2 ≡ 1 → ⊥ = λ q. n (h c .1 q) in omega arith
 
 pub no-code : (s : Codes) → Bounded s → ((c : ℕ) → ¬ Has s c) → s ≡ nothing
 no-code s w h = same-codes s nothing w nothing-bounded (λ c. (λ p. absurd (h c p), λ p. absurd (nothing-has c p)))

@@ -1,8 +1,8 @@
 -- Sets of codes: what it is to be in one, and the sets that the functions make. A caller goes by the laws of membership
 -- (`proofs/Members.antt`) and opens nothing here, so that how a set is held, as the bits of a number, is known to this crate alone.
-use mathlib.Core.Path.{_≡_}
-use Prim.Native.Nat.{ℕ, _/_, _%_, _^_, _≤_, _<_}
+use Prim.Native.Nat.{ℕ, _^_, _≤_, _<_}
 use lib.Bits.{bitAnd, bitOr}
+unfoldable pub use Rattle.meaning.specs.Codes.{Has}
 
 -- Every code is below this.
 abbrev pub limit : ℕ
@@ -11,10 +11,6 @@ limit = 64
 -- A set of codes, as a contract sees a `u64`.
 abbrev pub Codes : Type 0
 Codes = ℕ
-
--- Code c is in the set s.
-unfoldable pub Has : Codes → ℕ → Type 0
-Has s c = s / 2 ^ c % 2 ≡ 1
 
 -- Code c is in both sets.
 abbrev pub Shared : Codes → Codes → ℕ → Type 0

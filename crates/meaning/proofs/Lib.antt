@@ -1,5 +1,7 @@
 pub mod Place
 pub mod Facts
+pub mod Digits
+pub mod CodeSets
 pub mod WordReading
 pub mod Steps
 pub mod Before
