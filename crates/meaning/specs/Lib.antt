@@ -1,1 +1,17 @@
--- The definitions of the bench library, in the words of the request.
+pub mod Expr
+pub mod Lists
+pub mod Word
+pub mod Normal
+pub mod Reading
+pub mod Strong
+pub mod Sets
+pub mod Conflict
+pub mod Bytes
+pub mod Node
+pub mod File
+pub mod State
+pub mod Record
+pub mod Loose
+pub mod Codes
+pub mod Numbers
+pub mod Promises

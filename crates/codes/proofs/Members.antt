@@ -1,0 +1,83 @@
+-- The laws of membership, by which a caller reasons about sets of codes with `Has` shut. Assumes nothing.
+use mathlib.Core.Logic.{_↔_, _⊎_, inl, inr, ⊎-elim}
+use mathlib.Core.Path.{_≡_, sym, subst}
+use Prim.Native.Nat.{ℕ, suc, _-_, _/_, _%_, _^_, _≤_, _<_}
+use native.Mathlib.Decide.{ℕ-discrete, decLe}
+use native.Mathlib.Nat.{le-antisymm, lt-of-lt-of-le, zero-div}
+use native.Mathlib.Omega.{arith}
+use lib.Bits.{and-lt, or-lt}
+use lib.Pow.{pow-lt, pow-mono, pow-pos}
+use Rattle.codes.specs.Codes.{Bounded, Codes, Has, Least, Shared, both, either, limit, nothing, only}
+use Rattle.meaning.proofs.Digits.{digit-of-and, digit-of-or, digit-of-power, digit-past, digit-under-power}
+pub use Rattle.meaning.proofs.CodeSets.{has-or-not, same-codes}
+
+-- ---- which codes are in a set
+
+pub nothing-has : (c : ℕ) → ¬ Has nothing c
+unfolding Has nothing
+nothing-has c h = omega (arith, zero-div (2 ^ c))
+
+pub only-has : (c d : ℕ) → Has (only c) d ↔ (d ≡ c)
+unfolding Has only
+only-has c d =
+    (λ h. same h (decLe c d) (decLe d c), λ e. subst (λ (n : ℕ). 2 ^ c / 2 ^ n % 2 ≡ 1) (sym e) (digit-of-power c))
+  where
+    above : c < d → 2 ^ c / 2 ^ d % 2 ≡ 0
+    above l = digit-past (2 ^ c) d (pow-lt l)
+
+    below : d < c → 2 ^ c / 2 ^ d % 2 ≡ 0
+    below l = subst (λ (n : ℕ). 2 ^ n / 2 ^ d % 2 ≡ 0) (omega arith) (digit-under-power d (c - suc d))
+
+    same : 2 ^ c / 2 ^ d % 2 ≡ 1 → Dec (c ≤ d) → Dec (d ≤ c) → d ≡ c
+    same h (yes p) (yes q) = le-antisymm q p
+    same h (yes p) (no q) = absurd (omega (arith, above (omega arith)))
+    same h (no p) q = absurd (omega (arith, below (omega arith)))
+
+pub either-has : (a b : Codes) (c : ℕ) → Has (either a b) c ↔ (Has a c ⊎ Has b c)
+unfolding Has either
+either-has a b c = let e = digit-of-or a b c in (λ h. other h (has-or-not a c), ⊎-elim (λ p. omega arith) (λ q. omega arith))
+  where
+    other : Has (either a b) c → Has a c ⊎ ¬ Has a c → Has a c ⊎ Has b c
+    other h (inl p) = inl p
+    other h (inr n) = inr (omega (arith, digit-of-or a b c))
+
+pub both-has : (a b : Codes) (c : ℕ) → Has (both a b) c ↔ Shared a b c
+unfolding Has both
+both-has a b c = let e = digit-of-and a b c in (λ h. (omega arith, omega arith), λ p. omega arith)
+
+-- ---- what is in a set is a code, and sets with the same codes are equal
+
+pub nothing-bounded : Bounded nothing
+unfolding nothing
+nothing-bounded = pow-pos limit
+
+pub only-bounded : (c : ℕ) → c < limit → Bounded (only c)
+unfolding only
+only-bounded c l = pow-lt l
+
+pub either-bounded : (a b : Codes) → Bounded a → Bounded b → Bounded (either a b)
+unfolding either
+either-bounded a b = or-lt limit a b
+
+pub both-bounded : (a b : Codes) → Bounded a → Bounded b → Bounded (both a b)
+unfolding both
+both-bounded a b = and-lt limit a b
+
+pub has-below : (s : Codes) (c : ℕ) → Bounded s → Has s c → c < limit
+unfolding Has
+has-below s c w h = below (decLe limit c)
+  where
+    below : Dec (limit ≤ c) → c < limit
+    below (yes l) = absurd (omega (arith, digit-past s c (lt-of-lt-of-le w (pow-mono l))))
+    below (no l) = omega arith
+
+pub no-code : (s : Codes) → Bounded s → ((c : ℕ) → ¬ Has s c) → s ≡ nothing
+no-code s w h = same-codes s nothing w nothing-bounded (λ c. (λ p. absurd (h c p), λ p. absurd (nothing-has c p)))
+
+-- ---- the lowest code of a kind
+
+pub least-unique : {P : ℕ → Type 0} {c d : ℕ} → Least P c → Least P d → c ≡ d
+least-unique {c = c} {d = d} p q = le-antisymm (p .lowest d (q .holds)) (q .lowest c (p .holds))
+
+pub least-iff : {P Q : ℕ → Type 0} {c : ℕ} → ((d : ℕ) → P d ↔ Q d) → Least P c → Least Q c
+least-iff {c = c} e p = record { holds = e c .0 (p .holds); lowest = λ d q. p .lowest d (e d .1 q) }

@@ -1,0 +1,2 @@
+-- What the contracts on sets of codes cite.
+pub mod Codes

@@ -1,0 +1,1 @@
+-- General facts on lists and numbers.

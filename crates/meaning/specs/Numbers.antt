@@ -1,0 +1,88 @@
+-- The request's numbers and values for each case of the answers. Fields without a meaning are 0.
+use Prim.Native.Nat.{ℕ}
+use Rattle.meaning.specs.declared.Refusal.{Refusal}
+use Rattle.meaning.specs.declared.Refusal.the-variants.{Size, Letters, Measures, Record, Order, Repeats, Conflict, Unreached, Length, Incomplete, Room}
+use Rattle.meaning.specs.declared.Verdict.{Verdict}
+use Rattle.meaning.specs.declared.Verdict.the-variants.{Complete, Unfinished, Broken}
+use Rattle.meaning.specs.declared.JudgeAnswer.{JudgeAnswer}
+use Rattle.meaning.specs.declared.JudgeAnswer.the-variants as judge
+use Rattle.meaning.specs.declared.FollowAnswer.{FollowAnswer}
+use Rattle.meaning.specs.declared.FollowAnswer.the-variants as follow
+use Rattle.meaning.specs.declared.WriteAnswer.{WriteAnswer}
+use Rattle.meaning.specs.declared.WriteAnswer.the-variants as write
+use Rattle.meaning.specs.declared.CheckAnswer.{CheckAnswer}
+use Rattle.meaning.specs.declared.CheckAnswer.the-variants as check
+use Rattle.meaning.specs.declared.PromptAnswer.{PromptAnswer}
+use Rattle.meaning.specs.declared.PromptAnswer.the-variants as prompt
+
+-- the numbers of Judge: 0 to 7, node, kind, code
+pub record JudgeNumbers : Type 0 where
+  pub answer : ℕ
+  pub node : ℕ
+  pub kind : ℕ
+  pub code : ℕ
+
+abbrev pub judged : ℕ → ℕ → ℕ → ℕ → JudgeNumbers
+judged a i k c = record { answer = a; node = i; kind = k; code = c }
+
+-- the table of numbers: the number of a refusal, the node reported, and the kind and code of a conflict
+abbrev pub row : Refusal → JudgeNumbers
+row Size = judged 1 0 0 0
+row Letters = judged 2 0 0 0
+row Measures = judged 3 0 0 0
+row (Record i) = judged 4 i 0 0
+row (Order i) = judged 5 i 0 0
+row (Repeats i) = judged 6 i 0 0
+row (Conflict i k c) = judged 7 i k c
+row Unreached = judged 8 0 0 0
+row Length = judged 9 0 0 0
+row Incomplete = judged 10 0 0 0
+row Room = judged 11 0 0 0
+
+-- 0 complete, 1 unfinished, 2 broken
+abbrev pub verdictNumber : Verdict → ℕ
+verdictNumber Complete = 0
+verdictNumber Unfinished = 1
+verdictNumber Broken = 2
+
+abbrev pub judgeNumbers : JudgeAnswer → JudgeNumbers
+judgeNumbers judge.Admitted = judged 0 0 0 0
+judgeNumbers (judge.Refused r) = row r
+
+-- the numbers of Follow: 0 to 8, the number of events taken, the verdict
+pub record FollowNumbers : Type 0 where
+  pub answer : ℕ
+  pub taken : ℕ
+  pub verdict : ℕ
+
+abbrev pub followNumbers : FollowAnswer → FollowNumbers
+followNumbers (follow.Followed t v) = record { answer = 0; taken = t; verdict = verdictNumber v }
+followNumbers (follow.Refused r) = record { answer = row r .answer; taken = 0; verdict = 0 }
+
+-- the numbers of Write: 0 to 7 or 9 to 11, the length in bytes
+pub record WriteNumbers : Type 0 where
+  pub answer : ℕ
+  pub length : ℕ
+
+abbrev pub writeNumbers : WriteAnswer → WriteNumbers
+writeNumbers (write.Written n) = record { answer = 0; length = n }
+writeNumbers (write.Refused r) = record { answer = row r .answer; length = 0 }
+
+-- the numbers of Check: 0 to 6, yes (1) or no (0)
+pub record CheckNumbers : Type 0 where
+  pub answer : ℕ
+  pub yes : ℕ
+
+abbrev pub checkNumbers : CheckAnswer → CheckNumbers
+checkNumbers check.Yes = record { answer = 0; yes = 1 }
+checkNumbers check.No = record { answer = 0; yes = 0 }
+checkNumbers (check.Refused r) = record { answer = row r .answer; yes = 0 }
+
+-- the numbers of Prompt: 0 to 8, the set
+pub record PromptNumbers : Type 0 where
+  pub answer : ℕ
+  pub set : ℕ
+
+abbrev pub promptNumbers : PromptAnswer → PromptNumbers
+promptNumbers (prompt.Lit s) = record { answer = 0; set = s }
+promptNumbers (prompt.Refused r) = record { answer = row r .answer; set = 0 }
