@@ -1,9 +1,3 @@
 pub mod Place
-pub mod Facts
 pub mod Digits
 pub mod CodeSets
-pub mod WordReading
-pub mod Steps
-pub mod Before
-pub mod FirstAfter
-pub mod Unique

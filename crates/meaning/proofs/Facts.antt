@@ -1,1 +1,0 @@
--- General facts on lists and numbers.
