@@ -1,6 +1,5 @@
 -- A file is refused in one way, or lists one expression and is not refused.
 use mathlib.Core.Path.{_≡_, refl, sym, ap₂, _∙_, subst}
-use mathlib.Core.Logic.{_⊎_, inl, inr}
 use mathlib.Core.List.{List}
 use Prim.Native.Nat.{ℕ, zero, suc, _+_, _-_, _≤_, _<_, zero-le}
 use native.Mathlib.Omega.{arith}
@@ -8,9 +7,8 @@ use native.Mathlib.Decide.{decLt}
 use native.Mathlib.Nat.{zero-add, suc-add, le-refl}
 use Rattle.meaning.specs.declared.Refusal.{Refusal}
 use Rattle.meaning.specs.declared.Refusal.the-variants.{Size, Letters, Measures, Record, Order, Repeats, Conflict}
-use Rattle.meaning.specs.Expr.{Expr, empty, event, choice, sequence, repeat, Bounded, root, size}
-use Rattle.meaning.specs.Node.{Node, InTable, InOrder, Stands, repeatsBelow, isRepeat}
-use Rattle.meaning.specs.Strong.{StronglyDeterministic}
+use Rattle.meaning.specs.Expr.{Expr, empty, event, choice, sequence, repeat, root, size}
+use Rattle.meaning.specs.Node.{Node, InTable, InOrder, Stands, repeatsBelow}
 use Rattle.meaning.specs.Conflict.{LowestConflict}
 use Rattle.meaning.specs.File.{Sized, Lettered, Measured, TableBelow, OrderBelow, Lists, WellFormed, Refused, by-size, by-letters, by-measures, by-record, by-order, by-root, by-repeats, Holds, Barred, malformed, conflicting, Admitted, count, nodeAt}
 use Rattle.meaning.proofs.Files.{root-size, stands-unique, holds-bounded}
