@@ -3,8 +3,9 @@ use mathlib.Core.Path.{_≡_, refl, sym, ap, _∙_, subst}
 use mathlib.Core.Logic.{_↔_, _⊎_, inl, inr, ⊎-elim}
 use mathlib.Core.Bool.{Bool, true, false, _||_, So, false≢true}
 use mathlib.Core.List.{List, [], _∷_, _++_, append-assoc, append-nil}
-use Prim.Native.Nat.{ℕ, zero, suc, _+_, _-_, _≤_, max}
+use Prim.Native.Nat.{ℕ, zero, suc, _+_, _-_, _≤_, _<_, max}
 use native.Mathlib.Omega.{arith}
+use lib.Dec.{T, leb, eqb, leb→le, le→leb, eqb→eq, eqb-refl}
 use lib.ListN.{length, take}
 use Rattle.meaning.specs.Expr.{Upper, upto, endless, Within}
 use Rattle.meaning.specs.Lists.{Or, left, right, Cat, cat, Power, none, more}
@@ -16,6 +17,30 @@ use Rattle.meaning.specs.Normal.{isZero, low}
 pub so-or : (a b : Bool) → So (a || b) ↔ (So a ⊎ So b)
 so-or true b = (λ h. inl refl, λ h. refl)
 so-or false b = (λ h. inr h, ⊎-elim (λ h. absurd (false≢true h)) (λ h. h))
+
+-- a test passes as an equation exactly if it passes as a type
+so-iff-test : (b : Bool) → So b ↔ T b
+so-iff-test true = (λ h. tt, λ h. refl)
+so-iff-test false = (λ h. absurd (false≢true h), λ h. absurd h)
+
+-- the test of an order passes exactly if the order holds
+pub so-leb : (m n : ℕ) → So (leb m n) ↔ (m ≤ n)
+so-leb m n = (λ h. leb→le m n (so-iff-test (leb m n) .0 h), λ h. so-iff-test (leb m n) .1 (le→leb m n h))
+
+-- and fails exactly if the other order holds
+pub leb-false : (m n : ℕ) → n < m → leb m n ≡ false
+leb-false m n h = go (leb m n) (so-leb m n .0)
+  where
+    go : (b : Bool) → (So b → m ≤ n) → b ≡ false
+    go true f = absurd (omega (arith, f refl))
+    go false f = refl
+
+-- the test of equality passes exactly if the numbers are equal
+pub so-eqb : (m n : ℕ) → So (eqb m n) ↔ (m ≡ n)
+so-eqb m n = (
+  λ h. eqb→eq m n (so-iff-test (eqb m n) .0 h),
+  λ h. so-iff-test (eqb m n) .1 (subst (λ (k : ℕ). T (eqb m k)) h (eqb-refl m)),
+)
 
 -- the parts of a sum may be exchanged for equivalent ones
 pub iff-sum : {A B C D : Type 0} → A ↔ C → B ↔ D → (A ⊎ B) ↔ (C ⊎ D)
