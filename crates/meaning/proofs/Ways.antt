@@ -247,20 +247,20 @@ turn-leads s (choice l r) (inr p) q =
 turn-leads s (sequence l r) (inl p) q =
     let y = entry (s + size l) r q in
     climb-turns inl inr (Leads s (sequence l r) (inl p) q) (way s l p q) y (nullable r) (turn-leads s l p q) (λ x a w.
-        let k = entry-iff (s + size l) r q a .0 w in
-        (closes s l p ++ opens (s + size l) r a, (ends-can-end s l p q x, k .0, refl), k .1))
+    let k = entry-iff (s + size l) r q a .0 w in
+    (closes s l p ++ opens (s + size l) r a, (ends-can-end s l p q x, k .0, refl), k .1))
 turn-leads s (sequence l r) (inr p) q =
     child-turns inr (Leads s (sequence l r) (inr p) q) (way (s + size l) r p q) (turn-leads (s + size l) r p q)
 turn-leads s (repeat b lower upper) p q =
     let within : (a : Place b) → way s b (p .0) q ≡ turns a → Leads s (repeat b lower upper) p q (a, p .1) = λ a w.
-        let k = turn-leads s b (p .0) q a w in
-        (k .0, inl (k .1, refl), k .2) in
+    let k = turn-leads s b (p .0) q a w in
+    (k .0, inl (k .1, refl), k .2) in
     climb-turns (λ t. (t, p .1)) (λ t. (t, suc (p .1))) (Leads s (repeat b lower upper) p q) (way s b (p .0) q)
     (again s b (p .1) upper q) (enough b lower (p .1)) within (λ x a w.
-        let k = entry-behind (another (p .1) upper) (entry s b q) a .0 w in
-        let i = entry-iff s b q a .0 (k .1) in
-        let c = closing (s + size b) ∷ opening (s + size b) ∷ opens s b a in
-        (closes s b (p .0) ++ c, inr (ends-can-end s b (p .0) q x, i .0, refl, another-iff (p .1) upper .0 (k .0), refl), i .1))
+    let k = entry-behind (another (p .1) upper) (entry s b q) a .0 w in
+    let i = entry-iff s b q a .0 (k .1) in
+    let c = closing (s + size b) ∷ opening (s + size b) ∷ opens s b a in
+    (closes s b (p .0) ++ c, inr (ends-can-end s b (p .0) q x, i .0, refl, another-iff (p .1) upper .0 (k .0), refl), i .1))
 
 -- a turn is a step to that node
 pub way-step : (s : ℕ) (e : Expr) → Bounded e → (p t : Place e) → Sound e p → (q : ℕ) → way s e p q ≡ turns t → (m : List Item) × Step s e p t m × (nodeOf s e t ≡ q)
