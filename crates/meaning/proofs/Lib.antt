@@ -7,3 +7,5 @@ pub mod Steps
 pub mod Before
 pub mod FirstAfter
 pub mod Unique
+pub mod Items
+pub mod Stays
