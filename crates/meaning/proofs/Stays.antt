@@ -1,6 +1,6 @@
 -- What the count of begun blocks comes to: a reading leaves it as it was, and before a place it is the number that the place holds.
 -- So the state after the items before a place is made from the place alone.
-use mathlib.Core.Path.{_≡_, refl, sym, ap, _∙_, subst}
+use mathlib.Core.Path.{_≡_, refl, sym, ap, ap₂, _∙_, subst}
 use mathlib.Core.Logic.{_⊎_, inl, inr, ⊎-elim, ⊎-map}
 use mathlib.Core.Bool.{Bool, true, false, cond}
 use mathlib.Core.List.{List, [], _∷_, _++_, append-assoc, append-nil}
@@ -8,7 +8,7 @@ use Prim.Native.Nat.{ℕ, zero, suc, _+_, _≤_, _<_}
 use native.Mathlib.Omega.{arith}
 use lib.Dec.{eqb, eqb→eq}
 use lib.ListN.{length}
-use Rattle.meaning.specs.Expr.{Expr, empty, event, choice, sequence, repeat, size}
+use Rattle.meaning.specs.Expr.{Expr, empty, event, choice, sequence, repeat, size, Upper, upto, endless}
 use Rattle.meaning.specs.Lists.{Nil, nil, One, one, Or, left, right, Cat, cat, Power, none, more, times}
 use Rattle.meaning.specs.Normal.{nullable, low}
 use Rattle.meaning.specs.Reading.{Item, place, opening, closing, codes, Block, block, Reading}
@@ -250,11 +250,6 @@ before-begun s (repeat b lower upper) p u (cat w z k (cat o v one c)) i =
     blocks-begun (s + size b) (p .1) (reading-lacks (s + size b) s b own) (λ n. reading-leaves n s b) w v k
       (before-lacks (s + size b) s b own (p .0) v c) (blocksAt s b (p .0)) (before-begun s b (p .0) v c) i
 
--- items that end with an event, or none
-pub data Stopped : List Item → Type 0 where
-  nowhere : Stopped []
-  ended : (x : List Item) (i c : ℕ) → Stopped (x ++ (place i c ∷ []))
-
 ends-behind : (x v : List Item) (a : Item) → (y : List Item) × (v ≡ y ++ (a ∷ [])) → (y : List Item) × (x ++ v ≡ y ++ (a ∷ []))
 ends-behind x v a t = (x ++ t .0, ap (λ (y : List Item). x ++ y) (t .1) ∙ sym (append-assoc x (t .0) (a ∷ [])))
 
@@ -269,3 +264,99 @@ before-ends s (sequence l r) (inr p) u (cat x v a b) = ends-behind x v (itemOf (
 before-ends s (repeat b lower upper) p u (cat w z k (cat o v one c)) =
     ends-behind w (opening (s + size b) ∷ v) (itemOf s b (p .0))
       (ends-behind (opening (s + size b) ∷ []) v (itemOf s b (p .0)) (before-ends s b (p .0) v c))
+
+reached-append : (x y : List Item) (n : ℕ) → reached (x ++ y) n ≡ reached y (reached x n)
+reached-append [] y n = refl
+reached-append (place i c ∷ x) y n = reached-append x y (i + 1)
+reached-append (opening q ∷ x) y n = reached-append x y n
+reached-append (closing q ∷ x) y n = reached-append x y n
+
+-- the node reached is the place's
+before-reached : (s : ℕ) (e : Expr) (p : Place e) (u : List Item) (n : ℕ) → Before s e p u → reached u n ≡ nodeOf s e p + 1
+before-reached s e p u n b =
+    let t = before-ends s e p u b in ap (λ (x : List Item). reached x n) (t .1) ∙ reached-append (t .0) (itemOf s e p ∷ []) n
+
+-- a zero for each repeat of the part
+abbrev pub zeros : Expr → List ℕ
+zeros empty = []
+zeros (event c) = []
+zeros (choice l r) = zeros l ++ zeros r
+zeros (sequence l r) = zeros l ++ zeros r
+zeros (repeat b lower upper) = zeros b ++ (0 ∷ [])
+
+-- the counters at the place: a repeat around it has begun one block more than it has completed
+abbrev pub placeCounts : (e : Expr) → Place e → List ℕ
+placeCounts empty p = elim p [ ]
+placeCounts (event c) p = []
+placeCounts (choice l r) (inl p) = placeCounts l p ++ zeros r
+placeCounts (choice l r) (inr p) = zeros l ++ placeCounts r p
+placeCounts (sequence l r) (inl p) = placeCounts l p ++ zeros r
+placeCounts (sequence l r) (inr p) = zeros l ++ placeCounts r p
+placeCounts (repeat b lower upper) p = placeCounts b (p .0) ++ (stop (low (nullable b) lower) upper (suc (p .1)) ∷ [])
+
+-- the state at the place
+abbrev pub placeState : (e : Expr) → Place e → State
+placeState e p = record { node = nodeOf 0 e p + 1; counts = placeCounts e p }
+
+stop-zero : (lower : ℕ) (upper : Upper) → stop lower upper 0 ≡ 0
+stop-zero lower (upto n) = refl
+stop-zero lower endless = omega arith
+
+-- where no block is begun in the part, its counters are 0
+pub counters-zeros : (f : ℕ → ℕ) (s : ℕ) (e : Expr) → ((i : ℕ) → s ≤ i → i < s + size e → f i ≡ 0) → counters f s e ≡ zeros e
+counters-zeros f s empty h = refl
+counters-zeros f s (event c) h = refl
+counters-zeros f s (choice l r) h =
+    ap₂ _++_ (counters-zeros f s l (λ i a b. h i a (omega arith))) (counters-zeros f (s + size l) r (λ i a b. h i (omega arith) (omega arith)))
+counters-zeros f s (sequence l r) h =
+    ap₂ _++_ (counters-zeros f s l (λ i a b. h i a (omega arith))) (counters-zeros f (s + size l) r (λ i a b. h i (omega arith) (omega arith)))
+counters-zeros f s (repeat b lower upper) h =
+    let own = ap (stop (low (nullable b) lower) upper) (h (s + size b) (omega arith) (omega arith)) ∙ stop-zero (low (nullable b) lower) upper in
+    ap₂ (λ (x : List ℕ) (n : ℕ). x ++ (n ∷ [])) (counters-zeros f s b (λ i a c. h i a (omega arith))) own
+
+-- no block is begun outside the part
+apart-blocks : (i s : ℕ) (e : Expr) → Apart i s e → (p : Place e) → blocksAt s e p i ≡ 0
+apart-blocks i s empty m p = elim p [ ]
+apart-blocks i s (event c) m p = refl
+apart-blocks i s (choice l r) m (inl p) = apart-blocks i s l (λ q a c. m q a (omega arith)) p
+apart-blocks i s (choice l r) m (inr p) = apart-blocks i (s + size l) r (λ q a c. m q (omega arith) (omega arith)) p
+apart-blocks i s (sequence l r) m (inl p) = apart-blocks i s l (λ q a c. m q a (omega arith)) p
+apart-blocks i s (sequence l r) m (inr p) = apart-blocks i (s + size l) r (λ q a c. m q (omega arith) (omega arith)) p
+apart-blocks i s (repeat b lower upper) m p =
+    ap (λ (t : Bool). cond t (suc (p .1)) (blocksAt s b (p .0) i)) (m (s + size b) (omega arith) (omega arith))
+    ∙ apart-blocks i s b (λ q a c. m q a (omega arith)) (p .0)
+
+-- the counters of the other part of a choice or a sequence are 0
+right-zeros : (f : ℕ → ℕ) (s : ℕ) (l r : Expr) (p : Place l) → ((i : ℕ) → s ≤ i → i < s + (size l + size r + 1) → f i ≡ blocksAt s l p i)
+    → counters f (s + size l) r ≡ zeros r
+right-zeros f s l r p h =
+    counters-zeros f (s + size l) r (λ i a b. h i (omega arith) (omega arith) ∙ apart-blocks i s l (λ q c d. eqb-less q i (omega arith)) p)
+
+left-zeros : (f : ℕ → ℕ) (s : ℕ) (l r : Expr) (p : Place r) → ((i : ℕ) → s ≤ i → i < s + (size l + size r + 1) → f i ≡ blocksAt (s + size l) r p i)
+    → counters f s l ≡ zeros l
+left-zeros f s l r p h =
+    counters-zeros f s l (λ i a b. h i (omega arith) (omega arith) ∙ apart-blocks i (s + size l) r (λ q c d. eqb-more q i (omega arith)) p)
+
+-- where the blocks begun are those of the place, so are the counters
+counters-place : (f : ℕ → ℕ) (s : ℕ) (e : Expr) (p : Place e) → ((i : ℕ) → s ≤ i → i < s + size e → f i ≡ blocksAt s e p i) → counters f s e ≡ placeCounts e p
+counters-place f s empty p h = elim p [ ]
+counters-place f s (event c) p h = refl
+counters-place f s (choice l r) (inl p) h = ap₂ _++_ (counters-place f s l p (λ i a b. h i a (omega arith))) (right-zeros f s l r p h)
+counters-place f s (choice l r) (inr p) h =
+    ap₂ _++_ (left-zeros f s l r p h) (counters-place f (s + size l) r p (λ i a b. h i (omega arith) (omega arith)))
+counters-place f s (sequence l r) (inl p) h = ap₂ _++_ (counters-place f s l p (λ i a b. h i a (omega arith))) (right-zeros f s l r p h)
+counters-place f s (sequence l r) (inr p) h =
+    ap₂ _++_ (left-zeros f s l r p h) (counters-place f (s + size l) r p (λ i a b. h i (omega arith) (omega arith)))
+counters-place f s (repeat b lower upper) p h =
+    let q = s + size b in
+    let below : (i : ℕ) → s ≤ i → i < s + size b → f i ≡ blocksAt s b (p .0) i =
+            λ i a c. h i a (omega arith) ∙ ap (λ (t : Bool). cond t (suc (p .1)) (blocksAt s b (p .0) i)) (eqb-more q i c) in
+    let own = h q (omega arith) (omega arith) ∙ ap (λ (t : Bool). cond t (suc (p .1)) (blocksAt s b (p .0) q)) (eqb-same q) in
+    ap₂ (λ (x : List ℕ) (n : ℕ). x ++ (stop (low (nullable b) lower) upper n ∷ [])) (counters-place f s b (p .0) below) own
+
+-- the state after the items before a place is the place's
+pub before-state : (e : Expr) (p : Place e) (u : List Item) → Before 0 e p u → stateOf e u ≡ placeState e p
+before-state e p u b =
+    let n = before-reached 0 e p u 0 b in
+    let c = counters-place (λ i. begun i u 0) 0 e p (λ i x y. before-begun 0 e p u b i) in
+    λ j. record { node = n j; counts = c j }
