@@ -9,3 +9,4 @@ pub mod FirstAfter
 pub mod Unique
 pub mod Items
 pub mod Stays
+pub mod States
