@@ -15,7 +15,7 @@ use Rattle.meaning.specs.Reading.{Item, place, opening, closing, codes, 
 use Rattle.meaning.specs.Strong.{StronglyDeterministic}
 use Rattle.meaning.specs.State.{stop, counters, State, stateOf, Reaches, reaches}
 use Rattle.meaning.proofs.Place.{Place, nodeOf, codeOf, Sound, Rest, Before}
-use Rattle.meaning.proofs.Items.{codes-append, codes-upTo, upTo-zero, upTo-beyond}
+use Rattle.meaning.proofs.Items.{codes-append, codes-upTo, upTo-zero, upTo-append}
 use Rattle.meaning.proofs.WordReading.{word-iff-reading}
 use Rattle.meaning.proofs.Before.{before-rest-reading, some-reading, some-before, some-rest, reading-cut}
 use Rattle.meaning.proofs.Stays.{before-ends, zeros, placeCounts, placeState, before-state}
@@ -61,7 +61,7 @@ stopped-upTo a nowhere y m n h = ap (upTo y) (omega arith)
 stopped-upTo a (ended x i c) y m n h =
     let all = ap {B = ℕ} length (codes-append x (place i c ∷ [])) ∙ length-append (codes x) (c ∷ []) in
     ap (λ (t : List Item). upTo t n) (append-assoc x (place i c ∷ []) y)
-    ∙ upTo-beyond x (place i c ∷ y) m n (omega arith)
+    ∙ upTo-append x (place i c ∷ y) m n (omega arith)
     ∙ sym (append-assoc x (place i c ∷ []) (upTo y m))
 
 -- a reading parted at its start or just after an event: the items a, then the items y
