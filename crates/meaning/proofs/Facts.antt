@@ -2,12 +2,12 @@
 use mathlib.Core.Path.{_≡_, refl, sym, ap, _∙_, subst}
 use mathlib.Core.Logic.{_↔_, _⊎_, inl, inr, ⊎-elim}
 use mathlib.Core.Bool.{Bool, true, false, _||_, So, false≢true}
-use mathlib.Core.List.{List, [], _∷_, _++_, append-assoc, append-nil}
+use mathlib.Core.List.{List, [], _∷_, _++_, append-assoc, append-nil, append-cancel-right, head-eq-of-cons-eq, tail-eq-of-cons-eq}
 use Prim.Native.Nat.{ℕ, zero, suc, _+_, _-_, _≤_, _<_, max}
 use native.Mathlib.Decide.{decLt}
 use native.Mathlib.Omega.{arith}
 use lib.Dec.{T, eqb, eqb→eq, eqb-refl}
-use lib.ListN.{length, take}
+use lib.ListN.{length, take, length-append}
 use Rattle.meaning.specs.Expr.{Upper, upto, endless, Within}
 use Rattle.meaning.specs.Lists.{Or, left, right, Cat, cat, Power, none, more}
 use Rattle.meaning.specs.Normal.{isZero, low}
@@ -165,3 +165,28 @@ same-or-other m n = tested (eqb m n) (eqb→eq m n)
     tested : (b : Bool) → (T b → m ≡ n) → (m ≡ n) ⊎ (b ≡ false)
     tested true h = inl (h tt)
     tested false h = inr refl
+
+-- ---- equal lists
+
+-- equal lists whose fronts are as long fall into equal fronts and equal rests
+pub append-split : {A : Type 0} (u v x y : List A) → length u ≡ length v → u ++ x ≡ v ++ y → (u ≡ v) × (x ≡ y)
+append-split [] [] x y l h = (refl, h)
+append-split [] (b ∷ v) x y l h = absurd (omega arith)
+append-split (a ∷ u) [] x y l h = absurd (omega arith)
+append-split (a ∷ u) (b ∷ v) x y l h =
+    let t = append-split u v x y (omega arith) (tail-eq-of-cons-eq h) in
+    let f = head-eq-of-cons-eq h in
+    let g = t .0 in
+    (λ i. f i ∷ g i, t .1)
+
+-- equal lists have equal fronts before the last element, and the same last element
+pub last-split : {A : Type 0} (u v : List A) (a b : A) → u ++ (a ∷ []) ≡ v ++ (b ∷ []) → (u ≡ v) × (a ≡ b)
+last-split u v a b h =
+    let z = last-same u v a b h in (append-cancel-right u v (a ∷ []) (h ∙ ap (λ x. v ++ (x ∷ [])) (sym z)), z)
+
+-- lists as long after lists as long
+pub length-both : {A : Type 0} (u v x y : List A) → length u ≡ length v → length x ≡ length y → length (u ++ x) ≡ length (v ++ y)
+length-both u v x y h k =
+    let a = length-append u x in
+    let b = length-append v y in
+    omega arith

@@ -23,3 +23,4 @@ pub mod Refusals
 pub mod Records
 pub mod Stays
 pub mod States
+pub mod Continue

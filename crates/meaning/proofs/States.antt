@@ -10,18 +10,19 @@ use lib.Seq.{take-append-seam}
 use Rattle.meaning.specs.Expr.{Expr, empty, event, choice, sequence, repeat, size, Upper, upto, endless, Within, Bounded}
 use Rattle.meaning.specs.Lists.{Nil, nil, Or, left, right, Cat, cat}
 use Rattle.meaning.specs.Normal.{nullable, low}
-use Rattle.meaning.specs.Word.{Word, Begins}
+use Rattle.meaning.specs.Word.{Begins}
 use Rattle.meaning.specs.Reading.{Item, place, opening, closing, codes, upTo, Reading}
 use Rattle.meaning.specs.Strong.{StronglyDeterministic}
 use Rattle.meaning.specs.State.{stop, counters, State, stateOf, Reaches, reaches}
 use Rattle.meaning.proofs.Place.{Place, nodeOf, codeOf, Sound, Rest, Before}
 use Rattle.meaning.proofs.Items.{codes-append, codes-upTo, upTo-zero, upTo-append}
-use Rattle.meaning.proofs.WordReading.{word-iff-reading}
+use Rattle.meaning.proofs.WordReading.{begins-iff-reading}
+use Rattle.meaning.proofs.OneRecord.{readings-agree}
 use Rattle.meaning.proofs.Before.{before-rest-reading, some-reading, some-before, some-rest, reading-cut}
 use Rattle.meaning.proofs.Stays.{before-ends, zeros, placeCounts, placeState, before-state}
 
 -- items of a reading up to the run's last event that have the run's codes: it has that many events
-run-within : (x : List Item) (u : List ℕ) → codes (upTo x (length u)) ≡ u → length u ≤ length (codes x)
+pub run-within : (x : List Item) (u : List ℕ) → codes (upTo x (length u)) ≡ u → length u ≤ length (codes x)
 run-within x u c =
     let a = ap {B = ℕ} length (sym c ∙ codes-upTo x (length u)) in
     let b = length-take (length u) (codes x) in
@@ -29,26 +30,18 @@ run-within x u c =
 
 -- a run that reaches a state is a beginning of a word
 pub reaches-begins : (e : Expr) → Bounded e → (u : List ℕ) (z : State) → Reaches e u z → Begins e u
-reaches-begins e h u z (reaches x r c) =
-    let n = length u in
-    let front = ap (λ (t : List ℕ). t ++ drop n (codes x)) (sym c ∙ codes-upTo x n) in
-    let whole = sym (front ∙ take-append-drop n (codes x)) in
-    (drop n (codes x), word-iff-reading 0 e h (u ++ drop n (codes x)) .1 (x, r, whole))
+reaches-begins e h u z (reaches x r c) = begins-iff-reading 0 e h u .1 (x, r, c)
 
 -- a beginning of a word reaches a state
 pub begins-reaches : (e : Expr) → Bounded e → (u : List ℕ) → Begins e u → (z : State) × Reaches e u z
-begins-reaches e h u b =
-    let t = word-iff-reading 0 e h (u ++ b .0) .0 (b .1) in
-    let x = t .0 in
-    (stateOf e (upTo x (length u)), reaches x (t .1) (codes-upTo x (length u) ∙ ap (take (length u)) (t .2) ∙ take-append-seam u (b .0)))
+begins-reaches e h u b = let t = begins-iff-reading 0 e h u .0 b in (stateOf e (upTo (t .0) (length u)), reaches (t .0) (t .1) (t .2))
 
--- where the procedure is strongly deterministic, it reaches one state
+-- where the procedure is strongly deterministic, a run reaches at most one state
 pub one-state : (e : Expr) → StronglyDeterministic e → (u : List ℕ) (z y : State) → Reaches e u z → Reaches e u y → z ≡ y
-unfolding StronglyDeterministic
 one-state e d u z y (reaches x r c) (reaches t q k) =
     let n = length u in
     let same = sym (codes-upTo x n) ∙ c ∙ sym k ∙ codes-upTo t n in
-    ap (stateOf e) (d n x t r q (run-within x u c) (run-within t u k) same)
+    ap (stateOf e) (readings-agree e d n x t r q (run-within x u c) (run-within t u k) same)
 
 -- items that end with an event, or none
 pub data Stopped : List Item → Type 0 where

@@ -265,7 +265,7 @@ before-ends s (repeat b lower upper) p u (cat w z k (cat o v one c)) =
     ends-behind w (opening (s + size b) ∷ v) (itemOf s b (p .0))
       (ends-behind (opening (s + size b) ∷ []) v (itemOf s b (p .0)) (before-ends s b (p .0) v c))
 
-reached-append : (x y : List Item) (n : ℕ) → reached (x ++ y) n ≡ reached y (reached x n)
+pub reached-append : (x y : List Item) (n : ℕ) → reached (x ++ y) n ≡ reached y (reached x n)
 reached-append [] y n = refl
 reached-append (place i c ∷ x) y n = reached-append x y (i + 1)
 reached-append (opening q ∷ x) y n = reached-append x y n
