@@ -1,15 +1,15 @@
 -- What comes after a run depends on the state alone: a counter that stops at its cap gives the same answers ever after as one that does not.
 -- Where the procedure is strongly deterministic, two runs that reach one state go on alike; for (a+e) a they do not.
 use mathlib.Core.Path.{_≡_, refl, sym, ap, ap₂, _∙_, subst, subst⁻¹}
-use mathlib.Core.Logic.{_↔_, _⊎_, inl, inr, ⊎-elim}
+use mathlib.Core.Logic.{_↔_, inl, inr}
 use mathlib.Core.Bool.{Bool, true, false, cond}
-use mathlib.Core.List.{List, [], _∷_, _++_, append-assoc, append-nil, append-cancel-left, append-cancel-right}
-use Prim.Native.Nat.{ℕ, zero, suc, _+_, _≤_, min, max}
+use mathlib.Core.List.{List, [], _∷_, _++_, append-assoc, append-cancel-left, append-cancel-right}
+use Prim.Native.Nat.{ℕ, suc, _+_, _≤_}
 use native.Mathlib.Omega.{arith}
 use lib.Dec.{eqb}
 use lib.ListN.{length, take, length-append}
 use lib.Seq.{take-take, take-append-seam}
-use Rattle.meaning.specs.Expr.{Expr, empty, event, choice, sequence, repeat, size, Upper, upto, endless, Within, Bounded}
+use Rattle.meaning.specs.Expr.{Expr, empty, event, choice, sequence, repeat, size, Upper, upto, endless, Bounded}
 use Rattle.meaning.specs.Lists.{nil, one, left, right, cat}
 use Rattle.meaning.specs.Normal.{nullable, low}
 use Rattle.meaning.specs.Word.{Word, Begins}
@@ -122,7 +122,7 @@ begun-alike lower upper i (opening q ∷ t) k n h =
     begun-alike lower upper i t _ _ (stop-cond lower upper (eqb q i) (suc k) (suc n) k n (stop-next lower k n upper h) h)
 begun-alike lower upper i (closing q ∷ t) k n h =
     begun-alike lower upper i t _ _
-      (stop-cond lower upper (eqb q i) _ _ k n (stop-cond lower upper (opensNext i t) k n 0 0 h refl) h)
+    (stop-cond lower upper (eqb q i) _ _ k n (stop-cond lower upper (opensNext i t) k n 0 0 h refl) h)
 
 -- counting goes on after an event
 event-opens : (i : ℕ) (x : List Item) (j c : ℕ) (t : List Item) → opensNext i (x ++ (place j c ∷ t)) ≡ opensNext i (x ++ (place j c ∷ []))
@@ -182,15 +182,15 @@ same-state-after e a b t p q h =
 
 -- a reading that goes on from the run u, and items with the codes v that go on alike
 record Along (e : Expr) (u v : List ℕ) (x : List Item) : Type 0 where
-  one : List Item
-  two : List Item
+  here : List Item
+  there : List Item
   after : List Item
-  whole : x ≡ one ++ after
-  first : Parted e one after
-  second : Parted e two after
-  one-codes : codes one ≡ u
-  two-codes : codes two ≡ v
-  state : stateOf e one ≡ stateOf e two
+  whole : x ≡ here ++ after
+  here-parted : Parted e here after
+  there-parted : Parted e there after
+  here-codes : codes here ≡ u
+  there-codes : codes there ≡ v
+  state : stateOf e here ≡ stateOf e there
 
 -- runs that reach one state go on alike
 along : (e : Expr) → Bounded e → StronglyDeterministic e → (u v : List ℕ) (z : State) → Reaches e u z → Reaches e v z
@@ -198,19 +198,19 @@ along : (e : Expr) → Bounded e → StronglyDeterministic e → (u v : List ℕ
 along e h d u v z p (reaches t k g) x r c =
     let a = reading-parted e h x (length u) r (run-within x u c) in
     let b = reading-parted e h t (length v) k (run-within t v g) in
-    let one = upTo x (length u) in
-    let two = upTo t (length v) in
-    let same = one-state e d u (stateOf e one) (stateOf e two) (reaches x r c) p in
+    let front = upTo x (length u) in
+    let other = upTo t (length v) in
+    let same = one-state e d u (stateOf e front) (stateOf e other) (reaches x r c) p in
     record {
-      one = one;
-      two = two;
+      here = front;
+      there = other;
       after = a .0;
       whole = a .2;
-      first = a .1;
-      second = same-state-parted e one two (a .0) (b .0) (a .1) (b .1) same;
-      one-codes = c;
-      two-codes = g;
-      state = same
+      here-parted = a .1;
+      there-parted = same-state-parted e front other (a .0) (b .0) (a .1) (b .1) same;
+      here-codes = c;
+      there-codes = g;
+      state = same;
     }
 
 -- codes of items, one list after the other
@@ -223,9 +223,9 @@ codes-rest a y u w c d = append-cancel-left u (codes y) w (ap (λ (t : List ℕ)
 -- the second run's word
 along-word : (e : Expr) → Bounded e → (u v w : List ℕ) (x : List Item) → Along e u v x → codes x ≡ u ++ w → Word e (v ++ w)
 along-word e h u v w x g c =
-    let rest = codes-rest (g .one) (g .after) u w (g .one-codes) (ap codes (sym (g .whole)) ∙ c) in
+    let rest = codes-rest (g .here) (g .after) u w (g .here-codes) (ap codes (sym (g .whole)) ∙ c) in
     word-iff-reading 0 e h (v ++ w) .1
-    (g .two ++ g .after, parted-reading e (g .two) (g .after) (g .second), codes-join (g .two) (g .after) v w (g .two-codes) rest)
+    (g .there ++ g .after, parted-reading e (g .there) (g .after) (g .there-parted), codes-join (g .there) (g .after) v w (g .there-codes) rest)
 
 word-along : (e : Expr) → Bounded e → StronglyDeterministic e → (u v : List ℕ) (z : State) → Reaches e u z → Reaches e v z
     → (w : List ℕ) → Word e (u ++ w) → Word e (v ++ w)
@@ -252,14 +252,14 @@ along-reaches : (e : Expr) (u v w : List ℕ) (x : List Item) → Along e u v x 
     → Reaches e (v ++ w) (stateOf e (upTo x (length (u ++ w))))
 along-reaches e u v w x g c =
     let t = upTo (g .after) (length w) in
-    let one = ap (λ (y : List Item). upTo y (length (u ++ w))) (g .whole) ∙ up-along e (g .one) (g .after) u w (g .first) (g .one-codes) in
-    let two = up-along e (g .two) (g .after) v w (g .second) (g .two-codes) in
-    let rest = codes-rest (g .one) t u w (g .one-codes) (ap codes (sym one) ∙ c) in
-    let stopped-one = parted-stopped e (g .one) (g .after) (g .first) in
-    let stopped-two = parted-stopped e (g .two) (g .after) (g .second) in
-    subst⁻¹ (Reaches e (v ++ w)) (ap (stateOf e) one ∙ same-state-after e (g .one) (g .two) t stopped-one stopped-two (g .state))
-      (reaches-items e (v ++ w) (g .two ++ g .after) (g .two ++ t) (parted-reading e (g .two) (g .after) (g .second)) two
-        (codes-join (g .two) t v w (g .two-codes) rest))
+    let up-here = ap (λ (y : List Item). upTo y (length (u ++ w))) (g .whole) ∙ up-along e (g .here) (g .after) u w (g .here-parted) (g .here-codes) in
+    let up-there = up-along e (g .there) (g .after) v w (g .there-parted) (g .there-codes) in
+    let rest = codes-rest (g .here) t u w (g .here-codes) (ap codes (sym up-here) ∙ c) in
+    let stopped-here = parted-stopped e (g .here) (g .after) (g .here-parted) in
+    let stopped-there = parted-stopped e (g .there) (g .after) (g .there-parted) in
+    subst⁻¹ (Reaches e (v ++ w)) (ap (stateOf e) up-here ∙ same-state-after e (g .here) (g .there) t stopped-here stopped-there (g .state))
+    (reaches-items e (v ++ w) (g .there ++ g .after) (g .there ++ t) (parted-reading e (g .there) (g .after) (g .there-parted)) up-there
+    (codes-join (g .there) t v w (g .there-codes) rest))
 
 reaches-along : (e : Expr) → Bounded e → StronglyDeterministic e → (u v : List ℕ) (z : State) → Reaches e u z → Reaches e v z
     → (w : List ℕ) (y : State) → Reaches e (u ++ w) y → Reaches e (v ++ w) y
@@ -277,10 +277,11 @@ pub same-state-same-continuations : (e : Expr) → Bounded e → StronglyDetermi
     → (Begins e (u ++ w) ↔ Begins e (v ++ w))
     × (Word e (u ++ w) ↔ Word e (v ++ w))
     × ((y : State) → Reaches e (u ++ w) y ↔ Reaches e (v ++ w) y)
-same-state-same-continuations e h d u v z p q w =
-    ((begins-along e h d u v z p q w, begins-along e h d v u z q p w),
-    (word-along e h d u v z p q w, word-along e h d v u z q p w),
-    λ y. (reaches-along e h d u v z p q w y, reaches-along e h d v u z q p w y))
+same-state-same-continuations e h d u v z p q w = (
+  (begins-along e h d u v z p q w, begins-along e h d v u z q p w),
+  (word-along e h d u v z p q w, word-along e h d v u z q p w),
+  λ y. (reaches-along e h d u v z p q w y, reaches-along e h d v u z q p w y),
+)
 
 -- ---- where the procedure is not strongly deterministic
 
@@ -298,9 +299,10 @@ pub one-state-two-continuations : (z : State)
     × Reaches maybeTwice (0 ∷ 0 ∷ []) z
     × Begins maybeTwice (0 ∷ 0 ∷ [])
     × ¬ Begins maybeTwice (0 ∷ 0 ∷ 0 ∷ [])
-one-state-two-continuations =
-    (record { node = 4; counts = [] },
-    reaches (place 3 0 ∷ []) (cat [] (place 3 0 ∷ []) (right nil) one) refl,
-    reaches (place 0 0 ∷ place 3 0 ∷ []) (cat (place 0 0 ∷ []) (place 3 0 ∷ []) (left one) one) refl,
-    ([], cat (0 ∷ []) (0 ∷ []) (left one) one),
-    λ b. let short = maybe-twice-short (0 ∷ 0 ∷ 0 ∷ b .0) (b .1) in omega arith)
+one-state-two-continuations = (
+  record { node = 4; counts = [] },
+  reaches (place 3 0 ∷ []) (cat [] (place 3 0 ∷ []) (right nil) one) refl,
+  reaches (place 0 0 ∷ place 3 0 ∷ []) (cat (place 0 0 ∷ []) (place 3 0 ∷ []) (left one) one) refl,
+  ([], cat (0 ∷ []) (0 ∷ []) (left one) one),
+  λ b. let short = maybe-twice-short (0 ∷ 0 ∷ 0 ∷ b .0) (b .1) in omega arith,
+)

@@ -5,13 +5,12 @@ use mathlib.Core.Logic.{_↔_, _⊎_, inl, inr, ⊎-elim}
 use mathlib.Core.List.{List, [], _∷_, _++_, append-assoc, append-nil}
 use Prim.Native.Nat.{ℕ, zero, suc, _+_, _≤_, min, max}
 use native.Mathlib.Omega.{arith}
-use lib.ListN.{length, take, drop, length-append, length-take, take-append-drop}
-use lib.Seq.{take-append-seam}
+use lib.ListN.{length, length-append, length-take}
 use Rattle.meaning.specs.Expr.{Expr, empty, event, choice, sequence, repeat, size, Upper, upto, endless, Within, Bounded}
-use Rattle.meaning.specs.Lists.{Nil, nil, Or, left, right, Cat, cat}
+use Rattle.meaning.specs.Lists.{Or, left, right, Cat, cat}
 use Rattle.meaning.specs.Normal.{nullable, low}
 use Rattle.meaning.specs.Word.{Begins}
-use Rattle.meaning.specs.Reading.{Item, place, opening, closing, codes, upTo, Reading}
+use Rattle.meaning.specs.Reading.{Item, place, codes, upTo, Reading}
 use Rattle.meaning.specs.Strong.{StronglyDeterministic}
 use Rattle.meaning.specs.State.{stop, counters, State, stateOf, Reaches, reaches}
 use Rattle.meaning.proofs.Place.{Place, nodeOf, codeOf, Sound, Rest, Before}
@@ -135,21 +134,21 @@ most-stop lower k (upto n) h = refl
 most-stop lower k endless h = omega arith
 
 -- counters that are right for a node are those of a sound place
-counters-place : (s : ℕ) (e : Expr) (i : ℕ) (counts : List ℕ) → CountersAt s e i counts
+counters-sound-place : (s : ℕ) (e : Expr) (i : ℕ) (counts : List ℕ) → CountersAt s e i counts
     → (p : Place e) × Sound e p × (nodeOf s e p ≡ i) × (placeCounts e p ≡ counts)
-counters-place s empty i counts h = absurd h
-counters-place s (event c) i counts h = (tt, tt, sym (h .0), sym (h .1))
-counters-place s (choice l r) i counts (left (cat a v h z)) =
-    let t = counters-place s l i a h in (inl (t .0), t .1, t .2, ap₂ _++_ (t .3) (sym z))
-counters-place s (choice l r) i counts (right (cat a v z h)) =
-    let t = counters-place (s + size l) r i v h in (inr (t .0), t .1, t .2, ap₂ _++_ (sym z) (t .3))
-counters-place s (sequence l r) i counts (left (cat a v h z)) =
-    let t = counters-place s l i a h in (inl (t .0), t .1, t .2, ap₂ _++_ (t .3) (sym z))
-counters-place s (sequence l r) i counts (right (cat a v z h)) =
-    let t = counters-place (s + size l) r i v h in (inr (t .0), t .1, t .2, ap₂ _++_ (sym z) (t .3))
-counters-place s (repeat b lower upper) i counts (cat a v h (counting zero lo up)) = absurd (omega arith)
-counters-place s (repeat b lower upper) i counts (cat a v h (counting (suc k) lo up)) =
-    let t = counters-place s b i a h in
+counters-sound-place s empty i counts h = absurd h
+counters-sound-place s (event c) i counts h = (tt, tt, sym (h .0), sym (h .1))
+counters-sound-place s (choice l r) i counts (left (cat a v h z)) =
+    let t = counters-sound-place s l i a h in (inl (t .0), t .1, t .2, ap₂ _++_ (t .3) (sym z))
+counters-sound-place s (choice l r) i counts (right (cat a v z h)) =
+    let t = counters-sound-place (s + size l) r i v h in (inr (t .0), t .1, t .2, ap₂ _++_ (sym z) (t .3))
+counters-sound-place s (sequence l r) i counts (left (cat a v h z)) =
+    let t = counters-sound-place s l i a h in (inl (t .0), t .1, t .2, ap₂ _++_ (t .3) (sym z))
+counters-sound-place s (sequence l r) i counts (right (cat a v z h)) =
+    let t = counters-sound-place (s + size l) r i v h in (inr (t .0), t .1, t .2, ap₂ _++_ (sym z) (t .3))
+counters-sound-place s (repeat b lower upper) i counts (cat a v h (counting zero lo up)) = absurd (omega arith)
+counters-sound-place s (repeat b lower upper) i counts (cat a v h (counting (suc k) lo up)) =
+    let t = counters-sound-place s b i a h in
     let m = low (nullable b) lower in
     ((t .0, k), (t .1, most-within m (suc k) upper up), t .2, ap₂ (λ (x : List ℕ) (n : ℕ). x ++ (n ∷ [])) (t .3) (most-stop m (suc k) upper up))
 
@@ -169,18 +168,22 @@ reached-iff e h z = (λ t. forth (t .0) z (t .1), ⊎-elim (λ s. subst⁻¹ Rea
   where
     Reached : State → Type 0
     Reached y = (u : List ℕ) × Reaches e u y
+
     forth : (u : List ℕ) (y : State) → Reaches e u y → Reachable e y
     forth u y (reaches x r c) = let t = reading-parted e h x (length u) r (run-within x u c) in parted-reachable e (upTo x (length u)) (t .0) (t .1)
+
     start : Reached (startState e)
     start = let t = some-reading 0 e h in ([], parted-reaches e [] (t .0) (at-start (t .0) (t .1)))
+
     at : (i : ℕ) × (z .node ≡ i + 1) × CountersAt 0 e i (z .counts) → Reached z
     at t =
-        let p = counters-place 0 e (t .0) (z .counts) (t .2) in
+        let p = counters-sound-place 0 e (t .0) (z .counts) (t .2) in
         let a = some-before 0 e h (p .0) (p .1) in
         let y = some-rest 0 e h (p .0) (p .1) in
         let n : nodeOf 0 e (p .0) + 1 ≡ z .node = ap (λ (k : ℕ). k + 1) (p .2) ∙ sym (t .1) in
         let c = p .3 in
-        let same : placeState e (p .0) ≡ z = λ j. record { node = n j; counts = c j } in
-        (codes (a .0),
-        subst (Reaches e (codes (a .0))) (before-state e (p .0) (a .0) (a .1) ∙ same)
-          (parted-reaches e (a .0) (y .0) (at-place (p .0) (a .0) (y .0) (p .1) (a .1) (y .1))))
+        let same : placeState e (p .0) ≡ z = λ j. record { node = n j; counts = c j } in (
+          codes (a .0),
+          subst (Reaches e (codes (a .0))) (before-state e (p .0) (a .0) (a .1) ∙ same)
+              (parted-reaches e (a .0) (y .0) (at-place (p .0) (a .0) (y .0) (p .1) (a .1) (y .1))),
+        )

@@ -6,15 +6,14 @@ use mathlib.Core.Bool.{Bool, true, false, cond}
 use mathlib.Core.List.{List, [], _∷_, _++_, append-assoc, append-nil}
 use Prim.Native.Nat.{ℕ, zero, suc, _+_, _≤_, _<_}
 use native.Mathlib.Omega.{arith}
-use lib.Dec.{eqb, eqb→eq}
-use lib.ListN.{length}
+use lib.Dec.{eqb}
 use Rattle.meaning.specs.Expr.{Expr, empty, event, choice, sequence, repeat, size, Upper, upto, endless}
-use Rattle.meaning.specs.Lists.{Nil, nil, One, one, Or, left, right, Cat, cat, Power, none, more, times}
+use Rattle.meaning.specs.Lists.{nil, One, one, left, right, Cat, cat, Power, none, more, times}
 use Rattle.meaning.specs.Normal.{nullable, low}
-use Rattle.meaning.specs.Reading.{Item, place, opening, closing, codes, Block, block, Reading}
+use Rattle.meaning.specs.Reading.{Item, place, opening, closing, Block, block, Reading}
 use Rattle.meaning.specs.State.{opensNext, begun, stop, counters, reached, State, stateOf}
 use Rattle.meaning.proofs.Facts.{eqb-same, eqb-less, eqb-more, none-below-or-none-from, same-or-other}
-use Rattle.meaning.proofs.Place.{Place, nodeOf, codeOf, itemOf, Before}
+use Rattle.meaning.proofs.Place.{Place, nodeOf, itemOf, Before}
 
 -- no opening or closing is of node i
 abbrev Without : ℕ → List Item → Type 0
@@ -72,7 +71,7 @@ before-lacks i s (repeat b lower upper) m p u k =
     let own = m (s + size b) (omega arith) (omega arith) in
     let inside : Apart i s b = λ q a c. m q a (omega arith) in
     cat-lacks i (blocks-lack i (s + size b) own (reading-lacks i s b inside) (p .1))
-        (cat-lacks i (opening-lacks i (s + size b) own) (before-lacks i s b inside (p .0))) u k
+    (cat-lacks i (opening-lacks i (s + size b) own) (before-lacks i s b inside (p .0))) u k
 
 -- items without a mark of node i change nothing for it
 without-begun : (i : ℕ) (x y : List Item) (k : ℕ) → Without i x → begun i (x ++ y) k ≡ begun i y k
@@ -169,6 +168,7 @@ blocks-leave i q {P} g f j = ⊎-elim (λ e. subst (λ (n : ℕ). Leaves n (Powe
   where
     own : Leaves q (Power (Block P q) j)
     own x y k o = own-blocks q g j x y 0 k ∙ ap (λ (b : Bool). begun q y (begunAfter b j 0)) o ∙ ap (begun q y) (begun-after-none j)
+
     other : eqb q i ≡ false → Leaves i (Power (Block P q) j)
     other m x y k o = others-leave i q m f j x y k
 
@@ -196,7 +196,7 @@ reading-leaves i s (repeat b lower upper) x y (times j lo up k) o =
 pub reading-outside : (i s : ℕ) (e : Expr) → (i < s) ⊎ (s + size e ≤ i) → (x y : List Item) (k : ℕ) → Reading s e x → begun i (x ++ y) k ≡ begun i y k
 reading-outside i s e h x y k r =
     without-begun i x y k
-      (reading-lacks i s e (λ q a b. ⊎-elim (λ l. eqb-more q i (omega arith)) (λ l. eqb-less q i (omega arith)) h) x r)
+    (reading-lacks i s e (λ q a b. ⊎-elim (λ l. eqb-more q i (omega arith)) (λ l. eqb-less q i (omega arith)) h) x r)
 
 -- the blocks of node i begun at the place
 abbrev pub blocksAt : ℕ → (e : Expr) → Place e → ℕ → ℕ
@@ -226,6 +226,7 @@ blocks-begun q j g h w v k m f c i =
   where
     own : begun q (w ++ (opening q ∷ v)) 0 ≡ cond (eqb q q) (suc j) (f q)
     own = open-block q j g w v k m ∙ ap (λ (b : Bool). cond b (suc j) (f q)) (sym (eqb-same q))
+
     other : eqb q i ≡ false → begun i (w ++ (opening q ∷ v)) 0 ≡ cond (eqb q i) (suc j) (f i)
     other n =
         others-leave i q n (h i) j w (opening q ∷ v) k
@@ -242,13 +243,13 @@ before-begun s (choice l r) (inr p) u b i = before-begun (s + size l) r p u b i
 before-begun s (sequence l r) (inl p) u b i = before-begun s l p u b i
 before-begun s (sequence l r) (inr p) u (cat x v a b) i =
     let side : Lacks i (Reading s l) ⊎ Lacks i (Before (s + size l) r p) =
-            ⊎-map (reading-lacks i s l) (λ m. before-lacks i (s + size l) r m p) (apart-side i s l r) in
+    ⊎-map (reading-lacks i s l) (λ m. before-lacks i (s + size l) r m p) (apart-side i s l r) in
     let still = first-leaves i (reading-leaves i s l) side x v [] a b refl in
     subst (λ (t : List Item). begun i (x ++ t) 0 ≡ begun i t 0) (append-nil v) still ∙ before-begun (s + size l) r p v b i
 before-begun s (repeat b lower upper) p u (cat w z k (cat o v one c)) i =
     let own = own-apart s b in
     blocks-begun (s + size b) (p .1) (reading-lacks (s + size b) s b own) (λ n. reading-leaves n s b) w v k
-      (before-lacks (s + size b) s b own (p .0) v c) (blocksAt s b (p .0)) (before-begun s b (p .0) v c) i
+    (before-lacks (s + size b) s b own (p .0) v c) (blocksAt s b (p .0)) (before-begun s b (p .0) v c) i
 
 ends-behind : (x v : List Item) (a : Item) → (y : List Item) × (v ≡ y ++ (a ∷ [])) → (y : List Item) × (x ++ v ≡ y ++ (a ∷ []))
 ends-behind x v a t = (x ++ t .0, ap (λ (y : List Item). x ++ y) (t .1) ∙ sym (append-assoc x (t .0) (a ∷ [])))
@@ -263,7 +264,7 @@ before-ends s (sequence l r) (inl p) u b = before-ends s l p u b
 before-ends s (sequence l r) (inr p) u (cat x v a b) = ends-behind x v (itemOf (s + size l) r p) (before-ends (s + size l) r p v b)
 before-ends s (repeat b lower upper) p u (cat w z k (cat o v one c)) =
     ends-behind w (opening (s + size b) ∷ v) (itemOf s b (p .0))
-      (ends-behind (opening (s + size b) ∷ []) v (itemOf s b (p .0)) (before-ends s b (p .0) v c))
+    (ends-behind (opening (s + size b) ∷ []) v (itemOf s b (p .0)) (before-ends s b (p .0) v c))
 
 pub reached-append : (x y : List Item) (n : ℕ) → reached (x ++ y) n ≡ reached y (reached x n)
 reached-append [] y n = refl
@@ -350,7 +351,7 @@ counters-place f s (sequence l r) (inr p) h =
 counters-place f s (repeat b lower upper) p h =
     let q = s + size b in
     let below : (i : ℕ) → s ≤ i → i < s + size b → f i ≡ blocksAt s b (p .0) i =
-            λ i a c. h i a (omega arith) ∙ ap (λ (t : Bool). cond t (suc (p .1)) (blocksAt s b (p .0) i)) (eqb-more q i c) in
+    λ i a c. h i a (omega arith) ∙ ap (λ (t : Bool). cond t (suc (p .1)) (blocksAt s b (p .0) i)) (eqb-more q i c) in
     let own = h q (omega arith) (omega arith) ∙ ap (λ (t : Bool). cond t (suc (p .1)) (blocksAt s b (p .0) q)) (eqb-same q) in
     ap₂ (λ (x : List ℕ) (n : ℕ). x ++ (stop (low (nullable b) lower) upper n ∷ [])) (counters-place f s b (p .0) below) own
 
