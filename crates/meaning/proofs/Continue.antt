@@ -1,5 +1,5 @@
--- What comes after a run depends on the state alone: a counter that stops at its cap gives the same answers ever after as one that does not.
--- Where the procedure is strongly deterministic, two runs that reach one state go on alike; for (a+e) a they do not.
+-- Places with the same state go on alike: a counter that stops at its cap gives the same answers ever after as one that does not.
+-- So two runs that reach one state have the same continuations where the procedure is strongly deterministic; for (a+e) a they do not.
 use mathlib.Core.Path.{_≡_, refl, sym, ap, ap₂, _∙_, subst, subst⁻¹}
 use mathlib.Core.Logic.{_↔_, inl, inr}
 use mathlib.Core.Bool.{Bool, true, false, cond}
@@ -104,16 +104,18 @@ same-state-parted e a b y t (at-place p c v k d r) (at-place g f w l m q) h =
 
 -- ---- the state after further items
 
--- a counter that stops at its cap stops alike after further items
+-- counts that stop alike do so with one block more
 stop-next : (lower k n : ℕ) (upper : Upper) → stop lower upper k ≡ stop lower upper n → stop lower upper (suc k) ≡ stop lower upper (suc n)
 stop-next lower k n (upto m) h = ap suc h
 stop-next lower k n endless h = omega arith
 
+-- so does one of two counts, by a test
 stop-cond : (lower : ℕ) (upper : Upper) (b : Bool) (k n m j : ℕ) → stop lower upper k ≡ stop lower upper n → stop lower upper m ≡ stop lower upper j
     → stop lower upper (cond b k m) ≡ stop lower upper (cond b n j)
 stop-cond lower upper true k n m j h g = h
 stop-cond lower upper false k n m j h g = g
 
+-- and after further items
 begun-alike : (lower : ℕ) (upper : Upper) (i : ℕ) (t : List Item) (k n : ℕ) → stop lower upper k ≡ stop lower upper n
     → stop lower upper (begun i t k) ≡ stop lower upper (begun i t n)
 begun-alike lower upper i [] k n h = h
@@ -124,7 +126,7 @@ begun-alike lower upper i (closing q ∷ t) k n h =
     begun-alike lower upper i t _ _
     (stop-cond lower upper (eqb q i) _ _ k n (stop-cond lower upper (opensNext i t) k n 0 0 h refl) h)
 
--- counting goes on after an event
+-- what follows an event does not change what is next before it, and is counted on from there
 event-opens : (i : ℕ) (x : List Item) (j c : ℕ) (t : List Item) → opensNext i (x ++ (place j c ∷ t)) ≡ opensNext i (x ++ (place j c ∷ []))
 event-opens i [] j c t = refl
 event-opens i (place n d ∷ x) j c t = refl
@@ -139,6 +141,7 @@ event-begun i (closing q ∷ x) j c t k =
     ap (λ (b : Bool). begun i (x ++ (place j c ∷ t)) (cond (eqb q i) (cond b k 0) k)) (event-opens i x j c t)
     ∙ event-begun i x j c t (cond (eqb q i) (cond (opensNext i (x ++ (place j c ∷ []))) k 0) k)
 
+-- counting goes on after items that end with an event, or after none
 stopped-begun : (i : ℕ) (a t : List Item) (k : ℕ) → Stopped a → begun i (a ++ t) k ≡ begun i t (begun i a k)
 stopped-begun i a t k nowhere = refl
 stopped-begun i a t k (ended x j c) = ap (λ (y : List Item). begun i y k) (append-assoc x (place j c ∷ []) t) ∙ event-begun i x j c t k
@@ -227,6 +230,7 @@ along-word e h u v w x g c =
     word-iff-reading 0 e h (v ++ w) .1
     (g .there ++ g .after, parted-reading e (g .there) (g .after) (g .there-parted), codes-join (g .there) (g .after) v w (g .there-codes) rest)
 
+-- words of runs that reach one state
 word-along : (e : Expr) → Bounded e → StronglyDeterministic e → (u v : List ℕ) (z : State) → Reaches e u z → Reaches e v z
     → (w : List ℕ) → Word e (u ++ w) → Word e (v ++ w)
 word-along e h d u v z p q w k =
@@ -235,19 +239,21 @@ word-along e h d u v z p q w k =
     let front = codes-upTo x (length u) ∙ ap (take (length u)) (t .2) ∙ take-append-seam u w in
     along-word e h u v w x (along e h d u v z p q x (t .1) front) (t .2)
 
+-- beginnings of words
 begins-along : (e : Expr) → Bounded e → StronglyDeterministic e → (u v : List ℕ) (z : State) → Reaches e u z → Reaches e v z
     → (w : List ℕ) → Begins e (u ++ w) → Begins e (v ++ w)
 begins-along e h d u v z p q w b =
     let t = b .0 in
     (t, subst⁻¹ (Word e) (append-assoc v w t) (word-along e h d u v z p q (w ++ t) (subst (Word e) (append-assoc u w t) (b .1))))
 
--- the second run's state
+-- the items up to the end of a longer run
 up-along : (e : Expr) (a y : List Item) (u w : List ℕ) → Parted e a y → codes a ≡ u → upTo (a ++ y) (length (u ++ w)) ≡ a ++ upTo y (length w)
 up-along e a y u w t c =
     let long = length-append u w in
     let same = ap {B = ℕ} length c in
     stopped-upTo a (parted-stopped e a y t) y (length w) (length (u ++ w)) (omega arith)
 
+-- the second run's state
 along-reaches : (e : Expr) (u v w : List ℕ) (x : List Item) → Along e u v x → codes (upTo x (length (u ++ w))) ≡ u ++ w
     → Reaches e (v ++ w) (stateOf e (upTo x (length (u ++ w))))
 along-reaches e u v w x g c =
@@ -261,6 +267,7 @@ along-reaches e u v w x g c =
     (reaches-items e (v ++ w) (g .there ++ g .after) (g .there ++ t) (parted-reading e (g .there) (g .after) (g .there-parted)) up-there
     (codes-join (g .there) t v w (g .there-codes) rest))
 
+-- states reached
 reaches-along : (e : Expr) → Bounded e → StronglyDeterministic e → (u v : List ℕ) (z : State) → Reaches e u z → Reaches e v z
     → (w : List ℕ) (y : State) → Reaches e (u ++ w) y → Reaches e (v ++ w) y
 reaches-along e h d u v z p q w y (reaches x r c) =
@@ -289,6 +296,7 @@ same-state-same-continuations e h d u v z p q w = (
 abbrev pub maybeTwice : Expr
 maybeTwice = sequence (choice (event 0) empty) (event 0)
 
+-- its words have at most two events
 maybe-twice-short : (w : List ℕ) → Word maybeTwice w → length w ≤ 2
 maybe-twice-short w (cat u v (left one) one) = omega arith
 maybe-twice-short w (cat u v (right nil) one) = omega arith

@@ -20,7 +20,7 @@ use Rattle.meaning.proofs.OneRecord.{readings-agree}
 use Rattle.meaning.proofs.Before.{before-rest-reading, some-reading, some-before, some-rest, reading-cut}
 use Rattle.meaning.proofs.Stays.{before-ends, zeros, placeCounts, placeState, before-state}
 
--- items of a reading up to the run's last event that have the run's codes: it has that many events
+-- a reading whose items up to the run's last event have the run's codes has as many events
 pub run-within : (x : List Item) (u : List ℕ) → codes (upTo x (length u)) ≡ u → length u ≤ length (codes x)
 run-within x u c =
     let a = ap {B = ℕ} length (sym c ∙ codes-upTo x (length u)) in
@@ -42,6 +42,12 @@ one-state e d u z y (reaches x r c) (reaches t q k) =
     let same = sym (codes-upTo x n) ∙ c ∙ sym k ∙ codes-upTo t n in
     ap (stateOf e) (readings-agree e d n x t r q (run-within x u c) (run-within t u k) same)
 
+-- exactly the beginnings of words reach a state there, and each reaches one
+pub begins-iff-one-state : (e : Expr) → Bounded e → StronglyDeterministic e → (u : List ℕ)
+    → Begins e u ↔ ((z : State) × Reaches e u z × ((y : State) → Reaches e u y → y ≡ z))
+begins-iff-one-state e h d u =
+    (λ b. let t = begins-reaches e h u b in (t .0, t .1, λ y r. one-state e d u y (t .0) r (t .1)), λ t. reaches-begins e h u (t .0) (t .1))
+
 -- items that end with an event, or none
 pub data Stopped : List Item → Type 0 where
   nowhere : Stopped []
@@ -61,10 +67,12 @@ pub data Parted (e : Expr) : List Item → List Item → Type 0 where
   at-start : (y : List Item) → Reading 0 e y → Parted e [] y
   at-place : (p : Place e) (a y : List Item) → Sound e p → Before 0 e p a → Rest 0 e p y → Parted e a y
 
+-- both parts together are a reading
 pub parted-reading : (e : Expr) (a y : List Item) → Parted e a y → Reading 0 e (a ++ y)
 parted-reading e a y (at-start t r) = r
 parted-reading e a y (at-place p b t k c r) = before-rest-reading 0 e p a y c r
 
+-- the first part ends with an event, or is empty
 pub parted-stopped : (e : Expr) (a y : List Item) → Parted e a y → Stopped a
 parted-stopped e a y (at-start t r) = nowhere
 parted-stopped e a y (at-place p b t k c r) = let x = before-ends 0 e p a c in subst⁻¹ Stopped (x .1) (ended (x .0) (nodeOf 0 e p) (codeOf e p))
@@ -80,6 +88,7 @@ reading-parted e h x (suc n) r k =
 pub reaches-items : (e : Expr) (u : List ℕ) (x a : List Item) → Reading 0 e x → upTo x (length u) ≡ a → codes a ≡ u → Reaches e u (stateOf e a)
 reaches-items e u x a r h c = subst (λ (t : List Item). Reaches e u (stateOf e t)) h (reaches x r (ap codes h ∙ c))
 
+-- the run of the first part reaches the state after it
 parted-reaches : (e : Expr) (a y : List Item) → Parted e a y → Reaches e (codes a) (stateOf e a)
 parted-reaches e a y t =
     let up = stopped-upTo a (parted-stopped e a y t) y 0 (length (codes a)) (omega arith) ∙ ap {B = List Item} (λ v. a ++ v) (upTo-zero y) ∙ append-nil a in
@@ -110,6 +119,7 @@ CountersAt s (choice l r) i = Or (Cat (CountersAt s l i) (Zeros r)) (Cat (Zeros 
 CountersAt s (sequence l r) i = Or (Cat (CountersAt s l i) (Zeros r)) (Cat (Zeros l) (CountersAt (s + size l) r i))
 CountersAt s (repeat b lower upper) i = Cat (CountersAt s b i) (Counting (low (nullable b) lower) upper)
 
+-- a repeat that has begun a block within its bound counts within its most
 stop-counting : (lower k : ℕ) (upper : Upper) → Within (suc k) upper → Counting lower upper (stop lower upper (suc k) ∷ [])
 stop-counting lower k (upto n) h = counting (suc k) (omega arith) h
 stop-counting lower k endless h = counting (min (suc k) (max 1 lower)) (omega arith) (omega arith)
@@ -125,6 +135,7 @@ place-counters s (sequence l r) (inr p) k = right (cat (zeros l) (placeCounts r 
 place-counters s (repeat b lower upper) p k =
     cat (placeCounts b (p .0)) _ (place-counters s b (p .0) (k .0)) (stop-counting (low (nullable b) lower) (p .1) upper (k .1))
 
+-- what a counter may hold is a number of blocks within the bound, and is counted as it is
 most-within : (lower k : ℕ) (upper : Upper) → k ≤ most lower upper → Within k upper
 most-within lower k (upto n) h = h
 most-within lower k endless h = tt

@@ -1,4 +1,4 @@
--- What the count of begun blocks comes to: a reading leaves it as it was, and before a place it is the number that the place holds.
+-- What the count of begun blocks comes to: a reading leaves no block begun, and before a place the count is the number that the place holds.
 -- So the state after the items before a place is made from the place alone.
 use mathlib.Core.Path.{_≡_, refl, sym, ap, ap₂, _∙_, subst}
 use mathlib.Core.Logic.{_⊎_, inl, inr, ⊎-elim, ⊎-map}
@@ -22,6 +22,7 @@ Without i (place n c ∷ x) = Without i x
 Without i (opening q ∷ x) = (eqb q i ≡ false) × Without i x
 Without i (closing q ∷ x) = (eqb q i ≡ false) × Without i x
 
+-- so in two lists, one after the other
 without-append : (i : ℕ) (x y : List Item) → Without i x → Without i y → Without i (x ++ y)
 without-append i [] y h k = k
 without-append i (place n c ∷ x) y h k = without-append i x y h k
@@ -32,6 +33,7 @@ without-append i (closing q ∷ x) y h k = (h .0, without-append i x y (h .1) k)
 abbrev Lacks : ℕ → (List Item → Type 0) → Type 0
 Lacks i P = (x : List Item) → P x → Without i x
 
+-- two such sets, one after the other; blocks and an opening of another repeat
 cat-lacks : (i : ℕ) {P Q : List Item → Type 0} → Lacks i P → Lacks i Q → Lacks i (Cat P Q)
 cat-lacks i f g x (cat u v a b) = without-append i u v (f u a) (g v b)
 
@@ -81,6 +83,7 @@ without-begun i (opening q ∷ x) y k h = ap (λ (b : Bool). begun i (x ++ y) (c
 without-begun i (closing q ∷ x) y k h =
     ap (λ (b : Bool). begun i (x ++ y) (cond b (cond (opensNext i (x ++ y)) k 0) k)) (h .0) ∙ without-begun i x y k (h .1)
 
+-- nor is an opening of it next
 without-opens : (i : ℕ) (x y : List Item) → Without i x → opensNext i y ≡ false → opensNext i (x ++ y) ≡ false
 without-opens i [] y h o = o
 without-opens i (place n c ∷ x) y h o = refl
@@ -91,19 +94,18 @@ without-opens i (closing q ∷ x) y h o = refl
 abbrev Leaves : ℕ → (List Item → Type 0) → Type 0
 Leaves i P = (x y : List Item) → P x → opensNext i y ≡ false → begun i (x ++ y) 0 ≡ begun i y 0
 
-lacks-leaves : (i : ℕ) {P : List Item → Type 0} → Lacks i P → Leaves i P
-lacks-leaves i f x y p o = without-begun i x y 0 (f x p)
-
 -- what a list of the first set leaves, with one of the second behind it, where one of the two sets lacks node i
 first-leaves : (i : ℕ) {P Q : List Item → Type 0} → Leaves i P → Lacks i P ⊎ Lacks i Q
     → (x v y : List Item) → P x → Q v → opensNext i y ≡ false → begun i (x ++ (v ++ y)) 0 ≡ begun i (v ++ y) 0
 first-leaves i f (inl g) x v y p q o = without-begun i x (v ++ y) 0 (g x p)
 first-leaves i f (inr g) x v y p q o = f x (v ++ y) p (without-opens i v y (g v q) o)
 
+-- so is one set after another, where one of the two lacks node i
 cat-leaves : (i : ℕ) {P Q : List Item → Type 0} → Leaves i P → Leaves i Q → Lacks i P ⊎ Lacks i Q → Leaves i (Cat P Q)
 cat-leaves i f g h x y (cat u v p q) o =
     ap (λ (w : List Item). begun i w 0) (append-assoc u v y) ∙ first-leaves i f h u v y p q o ∙ g v y q o
 
+-- a block with what follows, by its closing
 block-append : (q : ℕ) (w v y : List Item) → w ++ (closing q ∷ []) ++ v ++ y ≡ w ++ (closing q ∷ (v ++ y))
 block-append q w v y = append-assoc (w ++ (closing q ∷ [])) v y ∙ append-assoc w (closing q ∷ []) (v ++ y)
 
@@ -130,6 +132,7 @@ abbrev opensAfter : Bool → ℕ → Bool
 opensAfter b zero = b
 opensAfter b (suc j) = true
 
+-- after blocks, or none, comes what comes
 blocks-open : (q : ℕ) {P : List Item → Type 0} (j : ℕ) (x y : List Item) → Power (Block P q) j x → opensNext q (x ++ y) ≡ opensAfter (opensNext q y) j
 blocks-open q j x y none = refl
 blocks-open q j x y (more n u v (block w h p) k) = eqb-same q
@@ -139,11 +142,13 @@ abbrev begunAfter : Bool → ℕ → ℕ → ℕ
 begunAfter b zero k = k
 begunAfter b (suc j) k = cond b (k + suc j) 0
 
+-- one block, then j
 begun-after-one : (b : Bool) (j k : ℕ) → begunAfter b j (cond (opensAfter b j) (suc k) 0) ≡ begunAfter b (suc j) k
 begun-after-one true zero k = omega arith
 begun-after-one false zero k = refl
 begun-after-one b (suc j) k = ap (λ (n : ℕ). cond b n 0) (omega arith)
 
+-- from none begun: none where the repeat is left, all where one more opens
 begun-after-none : (j : ℕ) → begunAfter false j 0 ≡ 0
 begun-after-none zero = refl
 begun-after-none (suc j) = refl
@@ -152,6 +157,7 @@ begun-after-all : (j : ℕ) → begunAfter true j 0 ≡ j
 begun-after-all zero = refl
 begun-after-all (suc j) = omega arith
 
+-- what blocks of repeat q come to for it
 own-blocks : (q : ℕ) {P : List Item → Type 0} → Lacks q P → (j : ℕ) (x y : List Item) (k : ℕ) → Power (Block P q) j x
     → begun q (x ++ y) k ≡ begun q y (begunAfter (opensNext q y) j k)
 own-blocks q f j x y k none = refl
@@ -251,6 +257,7 @@ before-begun s (repeat b lower upper) p u (cat w z k (cat o v one c)) i =
     blocks-begun (s + size b) (p .1) (reading-lacks (s + size b) s b own) (λ n. reading-leaves n s b) w v k
     (before-lacks (s + size b) s b own (p .0) v c) (blocksAt s b (p .0)) (before-begun s b (p .0) v c) i
 
+-- items that end with an item do so behind others
 ends-behind : (x v : List Item) (a : Item) → (y : List Item) × (v ≡ y ++ (a ∷ [])) → (y : List Item) × (x ++ v ≡ y ++ (a ∷ []))
 ends-behind x v a t = (x ++ t .0, ap (λ (y : List Item). x ++ y) (t .1) ∙ sym (append-assoc x (t .0) (a ∷ [])))
 
@@ -266,6 +273,7 @@ before-ends s (repeat b lower upper) p u (cat w z k (cat o v one c)) =
     ends-behind w (opening (s + size b) ∷ v) (itemOf s b (p .0))
     (ends-behind (opening (s + size b) ∷ []) v (itemOf s b (p .0)) (before-ends s b (p .0) v c))
 
+-- the node reached after two lists
 pub reached-append : (x y : List Item) (n : ℕ) → reached (x ++ y) n ≡ reached y (reached x n)
 reached-append [] y n = refl
 reached-append (place i c ∷ x) y n = reached-append x y (i + 1)
@@ -299,6 +307,7 @@ placeCounts (repeat b lower upper) p = placeCounts b (p .0) ++ (stop (low (nulla
 abbrev pub placeState : (e : Expr) → Place e → State
 placeState e p = record { node = nodeOf 0 e p + 1; counts = placeCounts e p }
 
+-- no block begun is counted as 0
 stop-zero : (lower : ℕ) (upper : Upper) → stop lower upper 0 ≡ 0
 stop-zero lower (upto n) = refl
 stop-zero lower endless = omega arith
