@@ -21,3 +21,6 @@ pub mod AfterWorded
 pub mod Files
 pub mod Refusals
 pub mod Records
+pub mod Stays
+pub mod States
+pub mod Continue
