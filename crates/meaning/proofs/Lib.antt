@@ -20,6 +20,7 @@ pub mod Lowest
 pub mod AfterWorded
 pub mod Files
 pub mod Refusals
+pub mod Outcomes
 pub mod Records
 pub mod Stays
 pub mod States
