@@ -20,5 +20,10 @@ pub mod Lowest
 pub mod AfterWorded
 pub mod Files
 pub mod Refusals
+pub mod Outcomes
 pub mod Records
+pub mod Stays
+pub mod States
+pub mod Continue
 pub mod Ways
+pub mod Loosened

@@ -1,0 +1,2 @@
+-- Which event nodes can directly follow one another in the loosened procedure.
+use Prim.Native.Nat.{ℕ}
