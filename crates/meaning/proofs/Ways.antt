@@ -76,7 +76,7 @@ way s (repeat b lower upper) p q =
 -- ---- entries
 
 -- an entry behind a test is there exactly if the test passes and the entry is there
-entry-behind : {A : Type 0} (b : Bool) (x : Entry A) (a : A) → (cond b x apart ≡ enters a) ↔ (So b × (x ≡ enters a))
+pub entry-behind : {A : Type 0} (b : Bool) (x : Entry A) (a : A) → (cond b x apart ≡ enters a) ↔ (So b × (x ≡ enters a))
 entry-behind true x a = (λ h. (refl, h), λ h. h .1)
 entry-behind false x a = (λ h. ((cc), (cc)), λ h. absurd (false≢true (h .0)))
 
@@ -161,7 +161,7 @@ another-iff k (upto n) = so-leb (suc (suc k)) n
 another-iff k endless = (λ h. tt, λ h. refl)
 
 -- no entry is none
-no-entry : {A : Type 0} (a : A) → ¬ (apart ≡ enters a)
+pub no-entry : {A : Type 0} (a : A) → ¬ (apart ≡ enters a)
 no-entry a w = let z : _≡_ {A = ℕ} 0 1 = cc in omega arith
 
 -- up from a child: the way within the child; where that ends, a turn at an entry; else the end, behind a test
@@ -187,20 +187,20 @@ module _ {A B C : Type 0} (f : A → C) (g : B → C) where
   climb-ends stuck y b w = ((cc), (cc))
 
   -- it turns where the way below turns
-  climb-turned-below : (x : Way A) (y : Entry B) (b : Bool) → Turned x → Turned (climb f x g y b)
+  pub climb-turned-below : (x : Way A) (y : Entry B) (b : Bool) → Turned x → Turned (climb f x g y b)
   climb-turned-below (turns a) y b h = tt
   climb-turned-below ends y b h = absurd h
   climb-turned-below stuck y b h = absurd h
 
   -- it turns at an entry, unless it is stuck below
-  climb-turned-here : (x : Way A) (y : Entry B) (b : Bool) (a : B) → Unstuck x → y ≡ enters a → Turned (climb f x g y b)
+  pub climb-turned-here : (x : Way A) (y : Entry B) (b : Bool) (a : B) → Unstuck x → y ≡ enters a → Turned (climb f x g y b)
   climb-turned-here (turns a) y b c h e = tt
   climb-turned-here ends (enters a) b c h e = tt
   climb-turned-here ends apart b c h e = absurd (no-entry c e)
   climb-turned-here stuck y b c h e = absurd h
 
   -- it is not stuck where it is not stuck below and the test passes
-  climb-unstuck : (x : Way A) (y : Entry B) (b : Bool) → Unstuck x → So b → Unstuck (climb f x g y b)
+  pub climb-unstuck : (x : Way A) (y : Entry B) (b : Bool) → Unstuck x → So b → Unstuck (climb f x g y b)
   climb-unstuck (turns a) y b h k = tt
   climb-unstuck ends (enters a) b h k = tt
   climb-unstuck ends apart true h k = tt
@@ -208,15 +208,15 @@ module _ {A B C : Type 0} (f : A → C) (g : B → C) where
   climb-unstuck stuck y b h k = absurd h
 
 -- an entry into one more block of a repeat, k + 1 of them begun
-abbrev again : ℕ → (b : Expr) → ℕ → Upper → ℕ → Entry (Place b)
+abbrev pub again : ℕ → (b : Expr) → ℕ → Upper → ℕ → Entry (Place b)
 again s b k upper q = cond (another k upper) (entry s b q) apart
 
 -- the blocks begun are enough
-abbrev enough : Expr → ℕ → ℕ → Bool
+abbrev pub enough : Expr → ℕ → ℕ → Bool
 enough b lower k = leb (low (nullable b) lower) (suc k)
 
 -- a step from the place to the other, which has the node
-abbrev Leads : ℕ → (e : Expr) → Place e → ℕ → Place e → Type 0
+abbrev pub Leads : ℕ → (e : Expr) → Place e → ℕ → Place e → Type 0
 Leads s e p q t = (m : List Item) × Step s e p t m × (nodeOf s e t ≡ q)
 
 -- where the way ends, a reading of the part may end
@@ -238,7 +238,7 @@ child-turns : {A B : Type 0} (f : A → B) (P : B → Type 0) (x : Way A) → ((
 child-turns f P x below = climb-turns f f P x apart true below (λ e a w. absurd (no-entry a w))
 
 -- a turn is a step to that node
-turn-leads : (s : ℕ) (e : Expr) (p : Place e) (q : ℕ) (t : Place e) → way s e p q ≡ turns t → Leads s e p q t
+pub turn-leads : (s : ℕ) (e : Expr) (p : Place e) (q : ℕ) (t : Place e) → way s e p q ≡ turns t → Leads s e p q t
 turn-leads s empty p q = absurd p
 turn-leads s (event c) p q = λ t w. absurd (subst⁻¹ Turned w tt)
 turn-leads s (choice l r) (inl p) q = child-turns inl (Leads s (choice l r) (inl p) q) (way s l p q) (turn-leads s l p q)
@@ -282,7 +282,7 @@ can-end-unstuck s (repeat b lower upper) p q c =
     (can-end-unstuck s b (p .0) q (c .0)) (so-leb (low (nullable b) lower) (suc (p .1)) .1 (c .1))
 
 -- a step makes the way turn
-step-turned : (s : ℕ) (e : Expr) (p t : Place e) (m : List Item) → Step s e p t m → Turned (way s e p (nodeOf s e t))
+pub step-turned : (s : ℕ) (e : Expr) (p t : Place e) (m : List Item) → Step s e p t m → Turned (way s e p (nodeOf s e t))
 step-turned s empty p t m w = absurd p
 step-turned s (event c) p t m w = absurd w
 step-turned s (choice l r) (inl p) (inl t) m w = climb-turned-below inl inl (way s l p (nodeOf s l t)) apart true (step-turned s l p t m w)
@@ -312,7 +312,7 @@ step-turned s (repeat b lower upper) p t m (inr w) =
     (t .0) (can-end-unstuck s b (p .0) q (w .0)) entered
 
 -- what turns, turns to a place
-turned-to : {A : Type 0} (x : Way A) → Turned x → (t : A) × (x ≡ turns t)
+pub turned-to : {A : Type 0} (x : Way A) → Turned x → (t : A) × (x ≡ turns t)
 turned-to (turns a) h = (a, refl)
 turned-to ends h = absurd h
 turned-to stuck h = absurd h
