@@ -26,4 +26,5 @@ pub mod Stays
 pub mod States
 pub mod Continue
 pub mod Ways
+pub mod Directly
 pub mod Loosened

@@ -1,20 +1,23 @@
 -- Which event nodes can directly follow one another in the loosened procedure: a recursion over the tree that reads no counter
 -- finds exactly those. Every step of the procedure itself is among them, so every event that continues a run is.
-use mathlib.Core.Path.{_≡_, refl, sym, ap, ap₂, _∙_, subst, subst⁻¹}
+use mathlib.Core.Path.{_≡_, refl, sym, ap, ap₂, _∙_, subst, subst⁻¹, subst₂, subst₃}
 use mathlib.Core.Logic.{_↔_, inl, inr, Iff·rfl, Iff·trans, Iff·symm}
 use mathlib.Core.Bool.{Bool, true, false, _&&_, _||_, cond, So, false≢true}
-use mathlib.Core.List.{List, [], _∷_, _++_}
+use mathlib.Core.List.{List}
 use Prim.Native.Nat.{ℕ, zero, suc, _+_, _≤_, _<_}
 use native.Mathlib.Omega.{arith}
 use lib.Dec.{leb, ltb}
 use Rattle.meaning.specs.Expr.{Expr, empty, event, choice, sequence, repeat, size, Upper, upto, endless, Within, Part, Bounded}
 use Rattle.meaning.specs.Normal.{isZero, nullable, low}
-use Rattle.meaning.specs.Reading.{Item, place, codes, Reading}
-use Rattle.meaning.specs.Loose.{many, atMostOne, loosen, DirectlyFollows, follows}
+use Rattle.meaning.specs.Reading.{Item}
+use Rattle.meaning.specs.Loose.{many, atMostOne, loosen, DirectlyFollows}
+use Rattle.meaning.specs.Promises.{Lights}
 use Rattle.meaning.proofs.Facts.{iff-sum, so-leb, not-leb, low-le}
 use Rattle.meaning.proofs.Marks.{node-from, node-below}
-use Rattle.meaning.proofs.Place.{Place, nodeOf, codeOf, itemOf, Sound, Step}
-use Rattle.meaning.proofs.Ways.{Entry, enters, apart, entry, Way, turns, ends, stuck, orElse, mapEntry, another, way, mapWay, again, enough, Turned, Unstuck, climb, climb-turned-below, climb-turned-here, climb-unstuck, step-turned, turned-to, turn-leads}
+use Rattle.meaning.proofs.Directly.{Stepped, follows-stepped, step-follows, part-place}
+use Rattle.meaning.proofs.Place.{Place, nodeOf, codeOf, Sound, Step}
+use Rattle.meaning.proofs.Records.{code-of-node}
+use Rattle.meaning.proofs.Ways.{Entry, enters, apart, entry, Way, turns, ends, stuck, orElse, mapEntry, another, way, mapWay, again, enough, Turned, Unstuck, climb, climb-turned-below, climb-turned-here, climb-unstuck, step-turned, turned-to, Leads, turn-leads, place-part}
 
 -- the way from event node i towards event node q in the loosened procedure: a repeat may end after each of its blocks,
 -- and begin another where upper is at least 2
@@ -269,7 +272,7 @@ loose-way (loose-choice {l} {k} {r} {t = m} x y) s z h (inr t) q =
 loose-way (loose-sequence {l} {k} {r} {t = m} x y) s z h (inl t) q =
     let i = nodeOf s k t in
     let v = entry (z + size l) r q in
-    let up = climb (λ t. tt) (near z l i q) (λ t. tt) v (nullable r) in
+    let up : Way (Unit {0}) = climb (λ t. tt) (near z l i q) (λ t. tt) v (nullable r) in
     let g : s + size k ≡ z + size l = omega (arith, loose-size x) in
     left-taken (Alike (way s (sequence k m) (inl t) q)) i (z + size l) up _ (omega (arith, node-below s k t))
     (climb-alike inl inr (λ t. tt) (λ t. tt) (way s k t q) (entry (s + size k) m q) (nullable m) (near z l i q) v (nullable r)
@@ -285,3 +288,44 @@ loose-way (loose-repeat {b} {d} lower low′ upper up′ x n lo an wl wo) s z h 
         ∙ sym (entered-cond (many upper) (entry z b q)) in
     climb-alike (λ a. (a, t .1)) (λ a. (a, suc (t .1))) (λ a. tt) (λ a. tt) (way s d (t .0) q) (again s d (t .1) up′ q) (enough d low′ (t .1))
     (near z b (nodeOf s d (t .0)) q) v true (loose-way x s z h (t .0) q) e (so-leb (low (nullable d) low′) (suc (t .1)) .1 (omega arith))
+
+-- a node is near exactly if a step of the loosened part leads to it
+near-iff-step : {e d : Expr} → Loose e d → (p : Place d) (q : ℕ) → Near 0 e (nodeOf 0 d p) q ↔ ((t : Place d) × Leads 0 d p q t)
+near-iff-step {e} {d} x p q =
+    let same = loose-way x 0 0 refl p q in (
+      λ h. let t = turned-to (way 0 d p q) (same .1 .0 h) in (t .0, turn-leads 0 d p q (t .0) (t .1)),
+      λ h. same .0 .0 (subst (λ (n : ℕ). Turned (way 0 d p n)) (h .1 .2) (step-turned 0 d p (h .0) (h .1 .0) (h .1 .1))),
+    )
+
+-- what directly follows in the loosened part is near
+follows-near : {e d : Expr} → Loose e d → (i j c : ℕ) → DirectlyFollows d i j c → Near 0 e i j × Part 0 e j (event c)
+follows-near {e} {d} x i j c f =
+    let k = follows-stepped d (loose-bounded x) i j c f in
+    let item = k .to-item in
+    let node : nodeOf 0 d (k .to) ≡ j = cc in
+    let code : codeOf d (k .to) ≡ c = cc in (
+      subst (λ (n : ℕ). Near 0 e n j) (k .from-node) (near-iff-step x (k .from) j .1 (k .to, (k .marks, k .step, node))),
+      loose-part x 0 0 refl j c .1 (subst₂ (λ (n a : ℕ). Part 0 d n (event a)) node code (place-part 0 d (k .to))),
+    )
+
+-- what is near an event node directly follows it in the loosened part
+near-follows : {e d : Expr} → Loose e d → (i a : ℕ) → Part 0 e i (event a) → (j c : ℕ) → Near 0 e i j × Part 0 e j (event c) → DirectlyFollows d i j c
+near-follows {e} {d} x i a w j c f =
+    let p = part-place 0 d (loose-bounded x) i a (loose-part x 0 0 refl i a .0 w) in
+    let t = near-iff-step x (p .0) j .0 (subst⁻¹ (λ (n : ℕ). Near 0 e n j) (p .2) (f .0)) in
+    let there = subst (λ (n : ℕ). Part 0 d n (event (codeOf d (t .0)))) (t .1 .2) (place-part 0 d (t .0)) in
+    let code = code-of-node d j (codeOf d (t .0)) c there (loose-part x 0 0 refl j c .0 (f .1)) in
+    subst₃ (DirectlyFollows d) (p .2) (t .1 .2) code (step-follows d (loose-bounded x) (p .0) (t .0) (t .1 .0) (p .1) (t .1 .1))
+
+-- an event node directly follows event node i in some reading of the loosened procedure exactly if it is near
+pub follows-iff-near : (e : Expr) → Bounded e → (i a : ℕ) → Part 0 e i (event a) → (j c : ℕ)
+    → DirectlyFollows (loosen e) i j c ↔ (Near 0 e i j × Part 0 e j (event c))
+follows-iff-near e h i a w j c = (follows-near (loosen-loose e h) i j c, near-follows (loosen-loose e h) i a w j c)
+
+-- so a code is lit behind event node i exactly if it is that of a node that is near
+pub lights-iff-near : (e : Expr) → Bounded e → (i a : ℕ) → Part 0 e i (event a) → (c : ℕ)
+    → Lights e (suc i) c ↔ ((j : ℕ) × Near 0 e i j × Part 0 e j (event c))
+lights-iff-near e h i a w c = (
+  λ f. let k = follows-iff-near e h i a w (f .0) c .0 (f .1) in (f .0, k .0, k .1),
+  λ f. (f .0, follows-iff-near e h i a w (f .0) c .1 (f .1, f .2)),
+)
