@@ -1,39 +1,37 @@
 -- Which event nodes can directly follow one another in the loosened procedure: a recursion over the tree that reads no counter
 -- finds exactly those. Every step of the procedure itself is among them, so every event that continues a run is.
-use mathlib.Core.Path.{_≡_, refl, sym, ap, ap₂, _∙_, subst, subst⁻¹, subst₂, subst₃}
-use mathlib.Core.Logic.{_↔_, inl, inr, Iff·rfl, Iff·trans, Iff·symm}
+use mathlib.Core.Path.{_≡_, refl, sym, ap, ap₂, _∙_, subst, subst₂}
+use mathlib.Core.Logic.{_↔_, inl, inr, Iff·trans}
 use mathlib.Core.Bool.{Bool, true, false, _&&_, _||_, cond, So, false≢true}
 use mathlib.Core.List.{List}
-use Prim.Native.Nat.{ℕ, zero, suc, _+_, _≤_, _<_}
+use Prim.Native.Nat.{ℕ, zero, suc, _+_, _≤_}
 use native.Mathlib.Omega.{arith}
-use lib.Dec.{leb, ltb}
-use Rattle.meaning.specs.Expr.{Expr, empty, event, choice, sequence, repeat, size, Upper, upto, endless, Within, Part, Bounded}
+use Rattle.meaning.specs.Expr.{Expr, empty, event, choice, sequence, repeat, size, Upper, upto, endless, Within, Whole, Part, Bounded}
 use Rattle.meaning.specs.Normal.{isZero, nullable, low}
 use Rattle.meaning.specs.Reading.{Item}
 use Rattle.meaning.specs.Loose.{many, atMostOne, loosen, DirectlyFollows}
 use Rattle.meaning.specs.Promises.{Lights}
 use Rattle.meaning.proofs.Facts.{iff-sum, so-leb, not-leb, low-le}
 use Rattle.meaning.proofs.Marks.{node-from, node-below}
-use Rattle.meaning.proofs.Directly.{Stepped, follows-stepped, step-follows, part-place}
-use Rattle.meaning.proofs.Place.{Place, nodeOf, codeOf, Sound, Step}
+use Rattle.meaning.proofs.Directly.{place-part, IsEvent, part-place, Stepped, follows-iff-stepped}
+use Rattle.meaning.proofs.Place.{Place, nodeOf, codeOf, Step}
 use Rattle.meaning.proofs.Records.{code-of-node}
-use Rattle.meaning.proofs.Ways.{Entry, enters, apart, entry, Way, turns, ends, stuck, orElse, mapEntry, another, way, mapWay, again, enough, Turned, Unstuck, climb, climb-turned-below, climb-turned-here, climb-unstuck, step-turned, turned-to, Leads, turn-leads, place-part}
+use Rattle.meaning.proofs.Ways.{Entry, enters, apart, entry, Way, turns, ends, stuck, orElse, mapEntry, another, way, mapWay, again, enough, Turned, Unstuck, climb, climb-turned-below, climb-turned-here, climb-unstuck, step-turned, turned-to, Leads, turn-leads}
 
--- the way from event node i towards event node q in the loosened procedure: a repeat may end after each of its blocks,
--- and begin another where upper is at least 2
-abbrev pub near : ℕ → Expr → ℕ → ℕ → Way (Unit {0})
-near s empty i q = stuck
-near s (event c) i q = ends
-near s (choice l r) i q = cond (ltb i (s + size l)) (near s l i q) (near (s + size l) r i q)
-near s (sequence l r) i q =
-    cond (ltb i (s + size l))
-    (climb (λ t. tt) (near s l i q) (λ t. tt) (entry (s + size l) r q) (nullable r))
-    (near (s + size l) r i q)
-near s (repeat b lower upper) i q = climb (λ t. tt) (near s b i q) (λ t. tt) (cond (many upper) (entry s b q) apart) true
+-- the way from a place towards event node q in the loosened part: a repeat may end after each of its blocks, and begin another
+-- where upper is at least 2, so the counters do not matter
+abbrev pub near : ℕ → (e : Expr) → Place e → ℕ → Way (Unit {0})
+near s empty p q = stuck
+near s (event c) p q = ends
+near s (choice l r) (inl p) q = near s l p q
+near s (choice l r) (inr p) q = near (s + size l) r p q
+near s (sequence l r) (inl p) q = climb (λ t. tt) (near s l p q) (λ t. tt) (entry (s + size l) r q) (nullable r)
+near s (sequence l r) (inr p) q = near (s + size l) r p q
+near s (repeat b lower upper) p q = climb (λ t. tt) (near s b (p .0) q) (λ t. tt) (cond (many upper) (entry s b q) apart) true
 
--- event node q can directly follow event node i in the loosened part
-abbrev pub Near : ℕ → Expr → ℕ → ℕ → Type 0
-Near s e i q = Turned (near s e i q)
+-- event node q can directly follow that of the place in the loosened part
+abbrev pub Near : ℕ → (e : Expr) → Place e → ℕ → Type 0
+Near s e p q = Turned (near s e p q)
 
 -- ---- the way of the procedure itself
 
@@ -81,45 +79,28 @@ entered-behind true true x h = λ z. z
 entered-behind true false x h = absurd (false≢true (h refl))
 entered-behind false d x h = λ z. absurd (false≢true z)
 
--- below n the first of two is taken, from n on the second
-pub left-taken : {A : Type 0} (P : A → Type 0) (i n : ℕ) (x y : A) → i < n → P x → P (cond (ltb i n) x y)
-left-taken P i n x y h = subst⁻¹ (λ b. P (cond b x y)) (so-leb (suc i) n .1 h)
-
-pub right-taken : {A : Type 0} (P : A → Type 0) (i n : ℕ) (x y : A) → n ≤ i → P y → P (cond (ltb i n) x y)
-right-taken P i n x y h = subst⁻¹ (λ b. P (cond b x y)) (not-leb (suc i) n .1 (omega arith))
-
 -- where one more block is allowed, upper is at least 2
 another-many : (k : ℕ) (upper : Upper) → So (another k upper) → So (many upper)
 another-many k (upto n) h = let g = so-leb (suc (suc k)) n .0 h in so-leb 2 n .1 (omega arith)
 another-many k endless h = refl
 
 -- the way in the loosened part covers that in the part itself
-way-near : (s : ℕ) (e : Expr) (p : Place e) (q : ℕ) → Covers (way s e p q) (near s e (nodeOf s e p) q)
+way-near : (s : ℕ) (e : Expr) (p : Place e) (q : ℕ) → Covers (way s e p q) (near s e p q)
 way-near s empty p q = absurd p
 way-near s (event c) p q = (λ h. h, λ h. h)
-way-near s (choice l r) (inl p) q =
-    left-taken (Covers (way s (choice l r) (inl p) q)) (nodeOf s l p) (s + size l) (near s l (nodeOf s l p) q) _ (node-below s l p)
-    (child-covers inl (way s l p q) (near s l (nodeOf s l p) q) (way-near s l p q))
-way-near s (choice l r) (inr p) q =
-    let i = nodeOf (s + size l) r p in
-    right-taken (Covers (way s (choice l r) (inr p) q)) i (s + size l) _ (near (s + size l) r i q) (node-from (s + size l) r p)
-    (child-covers inr (way (s + size l) r p q) (near (s + size l) r i q) (way-near (s + size l) r p q))
+way-near s (choice l r) (inl p) q = child-covers inl (way s l p q) (near s l p q) (way-near s l p q)
+way-near s (choice l r) (inr p) q = child-covers inr (way (s + size l) r p q) (near (s + size l) r p q) (way-near (s + size l) r p q)
 way-near s (sequence l r) (inl p) q =
     let y = entry (s + size l) r q in
-    let up = climb (λ t. tt) (near s l (nodeOf s l p) q) (λ t. tt) y (nullable r) in
-    left-taken (Covers (way s (sequence l r) (inl p) q)) (nodeOf s l p) (s + size l) up _ (node-below s l p)
-    (climb-covers inl inr (λ t. tt) (λ t. tt) (way s l p q) y (nullable r) (near s l (nodeOf s l p) q) y (nullable r) (way-near s l p q) (λ h. h) (λ h. h))
-way-near s (sequence l r) (inr p) q =
-    let i = nodeOf (s + size l) r p in
-    right-taken (Covers (way s (sequence l r) (inr p) q)) i (s + size l) _ (near (s + size l) r i q) (node-from (s + size l) r p)
-    (child-covers inr (way (s + size l) r p q) (near (s + size l) r i q) (way-near (s + size l) r p q))
+    climb-covers inl inr (λ t. tt) (λ t. tt) (way s l p q) y (nullable r) (near s l p q) y (nullable r) (way-near s l p q) (λ h. h) (λ h. h)
+way-near s (sequence l r) (inr p) q = child-covers inr (way (s + size l) r p q) (near (s + size l) r p q) (way-near (s + size l) r p q)
 way-near s (repeat b lower upper) p q =
     climb-covers (λ t. (t, p .1)) (λ t. (t, suc (p .1))) (λ t. tt) (λ t. tt) (way s b (p .0) q) (again s b (p .1) upper q) (enough b lower (p .1))
-    (near s b (nodeOf s b (p .0)) q) (cond (many upper) (entry s b q) apart) true (way-near s b (p .0) q)
+    (near s b (p .0) q) (cond (many upper) (entry s b q) apart) true (way-near s b (p .0) q)
     (entered-behind (another (p .1) upper) (many upper) (entry s b q) (another-many (p .1) upper)) (λ h. refl)
 
 -- a step of the procedure itself leads to a node that is near
-pub step-near : (s : ℕ) (e : Expr) (p t : Place e) (m : List Item) → Step s e p t m → Near s e (nodeOf s e p) (nodeOf s e t)
+pub step-near : (s : ℕ) (e : Expr) (p t : Place e) (m : List Item) → Step s e p t m → Near s e p (nodeOf s e t)
 step-near s e p t m w = way-near s e p (nodeOf s e t) .0 (step-turned s e p t m w)
 
 -- ---- the loosened part
@@ -193,18 +174,22 @@ loosen-loose (repeat b lower upper) h = loosen-repeat lower upper (loosen-loose 
 
 -- ---- what stays
 
+-- no choice, sequence or repeat is an event
+no-whole : (s z i c : ℕ) (e d : Expr) → ¬ IsEvent e → ¬ IsEvent d → Whole z e i (event c) ↔ Whole s d i (event c)
+no-whole s z i c e d f g = (λ w. absurd (f (subst IsEvent (w .1) tt)), λ w. absurd (g (subst IsEvent (w .1) tt)))
+
 -- the event nodes and their codes stay
 loose-part : {e d : Expr} → Loose e d → (s z : ℕ) → s ≡ z → (i c : ℕ) → Part z e i (event c) ↔ Part s d i (event c)
-loose-part loose-empty s z h i c = (λ w. (w .0 ∙ sym h, w .1), λ w. (w .0 ∙ h, w .1))
+loose-part loose-empty s z h i c = no-whole s z i c empty empty (λ u. u) (λ u. u)
 loose-part (loose-event f) s z h i c = (λ w. (w .0 ∙ sym h, w .1), λ w. (w .0 ∙ h, w .1))
 loose-part (loose-choice {l} {k} {r} {t} x y) s z h i c =
-    let below = loose-part y (s + size k) (z + size l) (omega (arith, loose-size x)) i c in
-    iff-sum (loose-part x s z h i c) (iff-sum below (λ w. let g = w .1 in ((cc), (cc)), λ w. let g = w .1 in ((cc), (cc))))
+    let right = loose-part y (s + size k) (z + size l) (omega (arith, loose-size x)) i c in
+    iff-sum (loose-part x s z h i c) (iff-sum right (no-whole s z i c (choice l r) (choice k t) (λ u. u) (λ u. u)))
 loose-part (loose-sequence {l} {k} {r} {t} x y) s z h i c =
-    let below = loose-part y (s + size k) (z + size l) (omega (arith, loose-size x)) i c in
-    iff-sum (loose-part x s z h i c) (iff-sum below (λ w. let g = w .1 in ((cc), (cc)), λ w. let g = w .1 in ((cc), (cc))))
-loose-part (loose-repeat lower low′ upper up′ x n lo an wl wo) s z h i c =
-    iff-sum (loose-part x s z h i c) (λ w. let g = w .1 in ((cc), (cc)), λ w. let g = w .1 in ((cc), (cc)))
+    let right = loose-part y (s + size k) (z + size l) (omega (arith, loose-size x)) i c in
+    iff-sum (loose-part x s z h i c) (iff-sum right (no-whole s z i c (sequence l r) (sequence k t) (λ u. u) (λ u. u)))
+loose-part (loose-repeat {b} {d} lower low′ upper up′ x n lo an wl wo) s z h i c =
+    iff-sum (loose-part x s z h i c) (no-whole s z i c (repeat b lower upper) (repeat d low′ up′) (λ u. u) (λ u. u))
 
 -- there is an entry into one of two children, the second behind a test
 entered-pair : {A B C : Type 0} (f : A → C) (g : B → C) (b : Bool) (x : Entry A) (y : Entry B)
@@ -240,92 +225,99 @@ loose-entry (loose-repeat {b} {d} lower low′ upper up′ x n lo an wl wo) s z 
     entered-map (λ p. (p, zero)) (entry s d q) ∙ loose-entry x s z h q ∙ sym (entered-map (λ p. (p, zero)) (entry z b q))
 
 -- each way covers the other
-abbrev Alike : {A B : Type 0} → Way A → Way B → Type 0
-Alike x y = Covers x y × Covers y x
+abbrev Agrees : {A B : Type 0} → Way A → Way B → Type 0
+Agrees x y = Covers x y × Covers y x
 
-child-alike : {A B C : Type 0} (f : A → B) (x : Way A) (y : Way C) → Alike x y → Alike (mapWay f x ends) y
-child-alike f (turns a) y h = h
-child-alike f ends y h = h
-child-alike f stuck y h = h
+child-agrees : {A B C : Type 0} (f : A → B) (x : Way A) (y : Way C) → Agrees x y → Agrees (mapWay f x ends) y
+child-agrees f (turns a) y h = h
+child-agrees f ends y h = h
+child-agrees f stuck y h = h
 
 module _ {A B C A′ B′ C′ : Type 0} (f : A → C) (g : B → C) (f′ : A′ → C′) (g′ : B′ → C′) where
-  climb-alike : (x : Way A) (y : Entry B) (b : Bool) (x′ : Way A′) (y′ : Entry B′) (b′ : Bool) → Alike x x′ → entered y ≡ entered y′ → b ≡ b′
-      → Alike (climb f x g y b) (climb f′ x′ g′ y′ b′)
-  climb-alike x y b x′ y′ b′ h e k = (
+  climb-agrees : (x : Way A) (y : Entry B) (b : Bool) (x′ : Way A′) (y′ : Entry B′) (b′ : Bool) → Agrees x x′ → entered y ≡ entered y′ → b ≡ b′
+      → Agrees (climb f x g y b) (climb f′ x′ g′ y′ b′)
+  climb-agrees x y b x′ y′ b′ h e k = (
     climb-covers f g f′ g′ x y b x′ y′ b′ (h .0) (λ w. sym e ∙ w) (λ w. sym k ∙ w),
     climb-covers f′ g′ f g x′ y′ b′ x y b (h .1) (λ w. e ∙ w) (λ w. k ∙ w),
   )
 
--- the way in the loosened part, from any place of the node
-loose-way : {e d : Expr} → Loose e d → (s z : ℕ) → s ≡ z → (t : Place d) (q : ℕ) → Alike (way s d t q) (near z e (nodeOf s d t) q)
-loose-way loose-empty s z h t q = absurd t
-loose-way (loose-event f) s z h t q = ((λ w. w, λ w. w), (λ w. w, λ w. w))
-loose-way (loose-choice {l} {k} {r} {t = m} x y) s z h (inl t) q =
-    let i = nodeOf s k t in
-    left-taken (Alike (way s (choice k m) (inl t) q)) i (z + size l) (near z l i q) _ (omega (arith, node-below s k t, loose-size x))
-    (child-alike inl (way s k t q) (near z l i q) (loose-way x s z h t q))
-loose-way (loose-choice {l} {k} {r} {t = m} x y) s z h (inr t) q =
-    let i = nodeOf (s + size k) m t in
+-- the nodes of a part are none of those of a part behind it
+before-not-behind : (s z : ℕ) (l r : Expr) (p : Place l) (t : Place r) → s + size l ≤ z → ¬ (nodeOf s l p ≡ nodeOf z r t)
+before-not-behind s z l r p t h e =
+    let a = node-below s l p in
+    let b = node-from z r t in
+    omega arith
+
+-- the way in the loosened part, from any place of the same node
+loose-way : {e d : Expr} → Loose e d → (s z : ℕ) → s ≡ z → (p : Place e) (t : Place d) → nodeOf s d t ≡ nodeOf z e p → (q : ℕ)
+    → Agrees (way s d t q) (near z e p q)
+loose-way loose-empty s z h p t i q = absurd p
+loose-way (loose-event f) s z h p t i q = ((λ w. w, λ w. w), (λ w. w, λ w. w))
+loose-way (loose-choice {l} {k} {r} {t = m} x y) s z h (inl p) (inl t) i q =
+    child-agrees inl (way s k t q) (near z l p q) (loose-way x s z h p t i q)
+loose-way (loose-choice {l} {k} {r} {t = m} x y) s z h (inl p) (inr t) i q =
+    absurd (before-not-behind z (s + size k) l m p t (omega (arith, loose-size x)) (sym i))
+loose-way (loose-choice {l} {k} {r} {t = m} x y) s z h (inr p) (inl t) i q =
+    absurd (before-not-behind s (z + size l) k r t p (omega (arith, loose-size x)) i)
+loose-way (loose-choice {l} {k} {r} {t = m} x y) s z h (inr p) (inr t) i q =
     let g : s + size k ≡ z + size l = omega (arith, loose-size x) in
-    right-taken (Alike (way s (choice k m) (inr t) q)) i (z + size l) _ (near (z + size l) r i q) (omega (arith, node-from (s + size k) m t))
-    (child-alike inr (way (s + size k) m t q) (near (z + size l) r i q) (loose-way y (s + size k) (z + size l) g t q))
-loose-way (loose-sequence {l} {k} {r} {t = m} x y) s z h (inl t) q =
-    let i = nodeOf s k t in
-    let v = entry (z + size l) r q in
-    let up : Way (Unit {0}) = climb (λ t. tt) (near z l i q) (λ t. tt) v (nullable r) in
+    child-agrees inr (way (s + size k) m t q) (near (z + size l) r p q) (loose-way y (s + size k) (z + size l) g p t i q)
+loose-way (loose-sequence {l} {k} {r} {t = m} x y) s z h (inl p) (inl t) i q =
     let g : s + size k ≡ z + size l = omega (arith, loose-size x) in
-    left-taken (Alike (way s (sequence k m) (inl t) q)) i (z + size l) up _ (omega (arith, node-below s k t))
-    (climb-alike inl inr (λ t. tt) (λ t. tt) (way s k t q) (entry (s + size k) m q) (nullable m) (near z l i q) v (nullable r)
-    (loose-way x s z h t q) (loose-entry y (s + size k) (z + size l) g q) (loose-nullable y))
-loose-way (loose-sequence {l} {k} {r} {t = m} x y) s z h (inr t) q =
-    let i = nodeOf (s + size k) m t in
+    climb-agrees inl inr (λ a. tt) (λ a. tt) (way s k t q) (entry (s + size k) m q) (nullable m) (near z l p q) (entry (z + size l) r q) (nullable r)
+    (loose-way x s z h p t i q) (loose-entry y (s + size k) (z + size l) g q) (loose-nullable y)
+loose-way (loose-sequence {l} {k} {r} {t = m} x y) s z h (inl p) (inr t) i q =
+    absurd (before-not-behind z (s + size k) l m p t (omega (arith, loose-size x)) (sym i))
+loose-way (loose-sequence {l} {k} {r} {t = m} x y) s z h (inr p) (inl t) i q =
+    absurd (before-not-behind s (z + size l) k r t p (omega (arith, loose-size x)) i)
+loose-way (loose-sequence {l} {k} {r} {t = m} x y) s z h (inr p) (inr t) i q =
     let g : s + size k ≡ z + size l = omega (arith, loose-size x) in
-    right-taken (Alike (way s (sequence k m) (inr t) q)) i (z + size l) _ (near (z + size l) r i q) (omega (arith, node-from (s + size k) m t))
-    (child-alike inr (way (s + size k) m t q) (near (z + size l) r i q) (loose-way y (s + size k) (z + size l) g t q))
-loose-way (loose-repeat {b} {d} lower low′ upper up′ x n lo an wl wo) s z h t q =
+    child-agrees inr (way (s + size k) m t q) (near (z + size l) r p q) (loose-way y (s + size k) (z + size l) g p t i q)
+loose-way (loose-repeat {b} {d} lower low′ upper up′ x n lo an wl wo) s z h p t i q =
     let v = cond (many upper) (entry z b q) apart in
     let e = entered-cond (another (t .1) up′) (entry s d q) ∙ ap₂ _&&_ (an (t .1)) (loose-entry x s z h q)
         ∙ sym (entered-cond (many upper) (entry z b q)) in
-    climb-alike (λ a. (a, t .1)) (λ a. (a, suc (t .1))) (λ a. tt) (λ a. tt) (way s d (t .0) q) (again s d (t .1) up′ q) (enough d low′ (t .1))
-    (near z b (nodeOf s d (t .0)) q) v true (loose-way x s z h (t .0) q) e (so-leb (low (nullable d) low′) (suc (t .1)) .1 (omega arith))
+    climb-agrees (λ a. (a, t .1)) (λ a. (a, suc (t .1))) (λ a. tt) (λ a. tt) (way s d (t .0) q) (again s d (t .1) up′ q) (enough d low′ (t .1))
+    (near z b (p .0) q) v true (loose-way x s z h (p .0) (t .0) i q) e (so-leb (low (nullable d) low′) (suc (t .1)) .1 (omega arith))
 
--- a node is near exactly if a step of the loosened part leads to it
-near-iff-step : {e d : Expr} → Loose e d → (p : Place d) (q : ℕ) → Near 0 e (nodeOf 0 d p) q ↔ ((t : Place d) × Leads 0 d p q t)
-near-iff-step {e} {d} x p q =
-    let same = loose-way x 0 0 refl p q in (
-      λ h. let t = turned-to (way 0 d p q) (same .1 .0 h) in (t .0, turn-leads 0 d p q (t .0) (t .1)),
-      λ h. same .0 .0 (subst (λ (n : ℕ). Turned (way 0 d p n)) (h .1 .2) (step-turned 0 d p (h .0) (h .1 .0) (h .1 .1))),
-    )
+-- ---- what directly follows
 
--- what directly follows in the loosened part is near
-follows-near : {e d : Expr} → Loose e d → (i j c : ℕ) → DirectlyFollows d i j c → Near 0 e i j × Part 0 e j (event c)
-follows-near {e} {d} x i j c f =
-    let k = follows-stepped d (loose-bounded x) i j c f in
-    let item = k .to-item in
-    let node : nodeOf 0 d (k .to) ≡ j = cc in
-    let code : codeOf d (k .to) ≡ c = cc in (
-      subst (λ (n : ℕ). Near 0 e n j) (k .from-node) (near-iff-step x (k .from) j .1 (k .to, (k .marks, k .step, node))),
-      loose-part x 0 0 refl j c .1 (subst₂ (λ (n a : ℕ). Part 0 d n (event a)) node code (place-part 0 d (k .to))),
-    )
+-- a step of the loosened part leads from the node of a place to exactly the event nodes that are near
+stepped-iff-near : {e d : Expr} → Loose e d → (p : Place e) (j c : ℕ) → Stepped d (nodeOf 0 e p) j c ↔ (Near 0 e p j × Part 0 e j (event c))
+stepped-iff-near {e} {d} x p j c = (
+  λ k. (
+    loose-way x 0 0 refl p (k .from) (k .from-node) j .0 .0
+    (subst (λ (n : ℕ). Turned (way 0 d (k .from) n)) (k .to-node) (step-turned 0 d (k .from) (k .to) (k .marks) (k .step))),
+    loose-part x 0 0 refl j c .1 (subst₂ (λ (n a : ℕ). Part 0 d n (event a)) (k .to-node) (k .to-code) (place-part 0 d (k .to))),
+  ),
+  λ f.
+      let i = nodeOf 0 e p in
+      let t = part-place 0 d (loose-bounded x) i (codeOf e p) (loose-part x 0 0 refl i (codeOf e p) .0 (place-part 0 e p)) in
+      let turn = turned-to (way 0 d (t .0) j) (loose-way x 0 0 refl p (t .0) (t .2) j .1 .0 (f .0)) in
+      let k = turn-leads 0 d (t .0) j (turn .0) (turn .1) in
+      let there = subst (λ (n : ℕ). Part 0 d n (event (codeOf d (turn .0)))) (k .2) (place-part 0 d (turn .0)) in
+      record {
+        from = t .0;
+        to = turn .0;
+        marks = k .0;
+        sound = t .1;
+        step = k .1;
+        from-node = t .2;
+        to-node = k .2;
+        to-code = code-of-node d j (codeOf d (turn .0)) c there (loose-part x 0 0 refl j c .0 (f .1));
+      },
+)
 
--- what is near an event node directly follows it in the loosened part
-near-follows : {e d : Expr} → Loose e d → (i a : ℕ) → Part 0 e i (event a) → (j c : ℕ) → Near 0 e i j × Part 0 e j (event c) → DirectlyFollows d i j c
-near-follows {e} {d} x i a w j c f =
-    let p = part-place 0 d (loose-bounded x) i a (loose-part x 0 0 refl i a .0 w) in
-    let t = near-iff-step x (p .0) j .0 (subst⁻¹ (λ (n : ℕ). Near 0 e n j) (p .2) (f .0)) in
-    let there = subst (λ (n : ℕ). Part 0 d n (event (codeOf d (t .0)))) (t .1 .2) (place-part 0 d (t .0)) in
-    let code = code-of-node d j (codeOf d (t .0)) c there (loose-part x 0 0 refl j c .0 (f .1)) in
-    subst₃ (DirectlyFollows d) (p .2) (t .1 .2) code (step-follows d (loose-bounded x) (p .0) (t .0) (t .1 .0) (p .1) (t .1 .1))
+-- an event node directly follows that of a place in some reading of the loosened procedure exactly if it is near
+pub follows-iff-near : (e : Expr) → Bounded e → (p : Place e) (j c : ℕ)
+    → DirectlyFollows (loosen e) (nodeOf 0 e p) j c ↔ (Near 0 e p j × Part 0 e j (event c))
+follows-iff-near e h p j c =
+    let x = loosen-loose e h in
+    Iff·trans (follows-iff-stepped (loosen e) (loose-bounded x) (nodeOf 0 e p) j c) (stepped-iff-near x p j c)
 
--- an event node directly follows event node i in some reading of the loosened procedure exactly if it is near
-pub follows-iff-near : (e : Expr) → Bounded e → (i a : ℕ) → Part 0 e i (event a) → (j c : ℕ)
-    → DirectlyFollows (loosen e) i j c ↔ (Near 0 e i j × Part 0 e j (event c))
-follows-iff-near e h i a w j c = (follows-near (loosen-loose e h) i j c, near-follows (loosen-loose e h) i a w j c)
-
--- so a code is lit behind event node i exactly if it is that of a node that is near
-pub lights-iff-near : (e : Expr) → Bounded e → (i a : ℕ) → Part 0 e i (event a) → (c : ℕ)
-    → Lights e (suc i) c ↔ ((j : ℕ) × Near 0 e i j × Part 0 e j (event c))
-lights-iff-near e h i a w c = (
-  λ f. let k = follows-iff-near e h i a w (f .0) c .0 (f .1) in (f .0, k .0, k .1),
-  λ f. (f .0, follows-iff-near e h i a w (f .0) c .1 (f .1, f .2)),
+-- so a code is lit at a place exactly if it is that of an event node that is near
+pub lights-iff-near : (e : Expr) → Bounded e → (p : Place e) (c : ℕ) → Lights e (suc (nodeOf 0 e p)) c ↔ ((j : ℕ) × Near 0 e p j × Part 0 e j (event c))
+lights-iff-near e h p c = (
+  λ f. let k = follows-iff-near e h p (f .0) c .0 (f .1) in (f .0, k .0, k .1),
+  λ f. (f .0, follows-iff-near e h p (f .0) c .1 (f .1, f .2)),
 )

@@ -7,13 +7,13 @@ use mathlib.Core.List.{List, _∷_, _++_}
 use Prim.Native.Nat.{ℕ, zero, suc, _+_, _≤_}
 use native.Mathlib.Omega.{arith}
 use lib.Dec.{eqb, leb}
-use Rattle.meaning.specs.Expr.{Expr, empty, event, choice, sequence, repeat, size, Upper, upto, endless, Within, Part, Bounded}
+use Rattle.meaning.specs.Expr.{Expr, empty, event, choice, sequence, repeat, size, Upper, upto, endless, Within, Bounded}
 use Rattle.meaning.specs.Normal.{nullable, low}
 use Rattle.meaning.specs.Reading.{Item, opening, closing}
-use Rattle.meaning.proofs.Place.{Place, nodeOf, codeOf, Sound, CanStart, opens, CanEnd, closes, Step}
+use Rattle.meaning.proofs.Place.{Place, nodeOf, Sound, CanStart, opens, CanEnd, closes, Step}
+use Rattle.meaning.proofs.Directly.{node-code}
 use Rattle.meaning.proofs.Facts.{so-leb, so-eqb, within-le}
 use Rattle.meaning.proofs.Marks.{node-below, left-not-right}
-use Rattle.meaning.proofs.Parts.{part-unique}
 use Rattle.meaning.proofs.Unique.{Free, step-unique}
 
 -- a place, or none
@@ -76,7 +76,7 @@ way s (repeat b lower upper) p q =
 -- ---- entries
 
 -- an entry behind a test is there exactly if the test passes and the entry is there
-pub entry-behind : {A : Type 0} (b : Bool) (x : Entry A) (a : A) → (cond b x apart ≡ enters a) ↔ (So b × (x ≡ enters a))
+entry-behind : {A : Type 0} (b : Bool) (x : Entry A) (a : A) → (cond b x apart ≡ enters a) ↔ (So b × (x ≡ enters a))
 entry-behind true x a = (λ h. (refl, h), λ h. h .1)
 entry-behind false x a = (λ h. ((cc), (cc)), λ h. absurd (false≢true (h .0)))
 
@@ -161,7 +161,7 @@ another-iff k (upto n) = so-leb (suc (suc k)) n
 another-iff k endless = (λ h. tt, λ h. refl)
 
 -- no entry is none
-pub no-entry : {A : Type 0} (a : A) → ¬ (apart ≡ enters a)
+no-entry : {A : Type 0} (a : A) → ¬ (apart ≡ enters a)
 no-entry a w = let z : _≡_ {A = ℕ} 0 1 = cc in omega arith
 
 -- up from a child: the way within the child; where that ends, a turn at an entry; else the end, behind a test
@@ -316,23 +316,6 @@ pub turned-to : {A : Type 0} (x : Way A) → Turned x → (t : A) × (x ≡ turn
 turned-to (turns a) h = (a, refl)
 turned-to ends h = absurd h
 turned-to stuck h = absurd h
-
--- the node of a place is that of its event
-pub place-part : (s : ℕ) (e : Expr) (p : Place e) → Part s e (nodeOf s e p) (event (codeOf e p))
-place-part s empty p = absurd p
-place-part s (event c) p = (refl, refl)
-place-part s (choice l r) (inl p) = inl (place-part s l p)
-place-part s (choice l r) (inr p) = inr (inl (place-part (s + size l) r p))
-place-part s (sequence l r) (inl p) = inl (place-part s l p)
-place-part s (sequence l r) (inr p) = inr (inl (place-part (s + size l) r p))
-place-part s (repeat b lower upper) p = inl (place-part s b (p .0))
-
--- the code of a place follows from its node
-pub node-code : (s : ℕ) (e : Expr) (p q : Place e) → nodeOf s e p ≡ nodeOf s e q → codeOf e p ≡ codeOf e q
-node-code s e p q h =
-    let x = subst (λ (i : ℕ). Part s e i (event (codeOf e p))) h (place-part s e p) in
-    let same = part-unique s e (nodeOf s e q) (event (codeOf e p)) (event (codeOf e q)) x (place-part s e q) in
-    cc
 
 -- for a part without a conflict, a step is a turn
 pub step-way : (s : ℕ) (e : Expr) → Bounded e → Free e → (p t : Place e) → Sound e p → (m : List Item) → Step s e p t m → way s e p (nodeOf s e t) ≡ turns t
