@@ -99,7 +99,7 @@ cut-at-event e x u y i c h t =
     let last = before-ends 0 e (t .reached) (upTo x n) (t .before) in
     let same-item = last-same (last .0) u (itemOf 0 e (t .reached)) (place i c) (sym (last .1) ∙ cut-off) in
     let whole : u ++ (place i c ∷ t .after) ≡ u ++ (place i c ∷ y) =
-        sym (append-cut (upTo x n) u (place i c ∷ []) (t .after) cut-off) ∙ sym (t .whole) ∙ h in
+    sym (append-cut (upTo x n) u (place i c ∷ []) (t .after) cut-off) ∙ sym (t .whole) ∙ h in
     ((cc), tail-eq-of-cons-eq (append-cancel-left u (place i c ∷ t .after) (place i c ∷ y) whole))
 
 -- what directly follows an event is a step away

@@ -16,7 +16,7 @@ use Rattle.meaning.proofs.Marks.{node-from, node-below}
 use Rattle.meaning.proofs.Directly.{place-part, IsEvent, part-place, Stepped, follows-iff-stepped}
 use Rattle.meaning.proofs.Place.{Place, nodeOf, codeOf, Step}
 use Rattle.meaning.proofs.Records.{code-of-node}
-use Rattle.meaning.proofs.Ways.{Entry, enters, apart, entry, Way, turns, ends, stuck, orElse, mapEntry, another, way, mapWay, again, enough, Turned, Unstuck, climb, climb-turned-below, climb-turned-here, climb-unstuck, step-turned, turned-to, Leads, turn-leads}
+use Rattle.meaning.proofs.Ways.{Entry, enters, apart, entry, Way, turns, ends, stuck, orElse, mapEntry, another, way, mapWay, again, enough, Turned, Unstuck, climb, climb-turned-below, climb-turned-here, climb-unstuck, step-turned, turned-to, way-step}
 
 -- the way from a place towards event node q in the loosened part: a repeat may end after each of its blocks, and begin another
 -- where upper is at least 2, so the counters do not matter
@@ -276,7 +276,7 @@ loose-way (loose-sequence {l} {k} {r} {t = m} x y) s z h (inr p) (inr t) i q =
 loose-way (loose-repeat {b} {d} lower low′ upper up′ x n lo an wl wo) s z h p t i q =
     let v = cond (many upper) (entry z b q) apart in
     let e = entered-cond (another (t .1) up′) (entry s d q) ∙ ap₂ _&&_ (an (t .1)) (loose-entry x s z h q)
-        ∙ sym (entered-cond (many upper) (entry z b q)) in
+    ∙ sym (entered-cond (many upper) (entry z b q)) in
     climb-agrees (λ a. (a, t .1)) (λ a. (a, suc (t .1))) (λ a. tt) (λ a. tt) (way s d (t .0) q) (again s d (t .1) up′ q) (enough d low′ (t .1))
     (near z b (p .0) q) v true (loose-way x s z h (p .0) (t .0) i q) e (so-leb (low (nullable d) low′) (suc (t .1)) .1 (omega arith))
 
@@ -287,14 +287,14 @@ stepped-iff-near : {e d : Expr} → Loose e d → (p : Place e) (j c : ℕ) → 
 stepped-iff-near {e} {d} x p j c = (
   λ k. (
     loose-way x 0 0 refl p (k .from) (k .from-node) j .0 .0
-    (subst (λ (n : ℕ). Turned (way 0 d (k .from) n)) (k .to-node) (step-turned 0 d (k .from) (k .to) (k .marks) (k .step))),
+        (subst (λ (n : ℕ). Turned (way 0 d (k .from) n)) (k .to-node) (step-turned 0 d (k .from) (k .to) (k .marks) (k .step))),
     loose-part x 0 0 refl j c .1 (subst₂ (λ (n a : ℕ). Part 0 d n (event a)) (k .to-node) (k .to-code) (place-part 0 d (k .to))),
   ),
   λ f.
       let i = nodeOf 0 e p in
       let t = part-place 0 d (loose-bounded x) i (codeOf e p) (loose-part x 0 0 refl i (codeOf e p) .0 (place-part 0 e p)) in
       let turn = turned-to (way 0 d (t .0) j) (loose-way x 0 0 refl p (t .0) (t .2) j .1 .0 (f .0)) in
-      let k = turn-leads 0 d (t .0) j (turn .0) (turn .1) in
+      let k = way-step 0 d (t .0) j (turn .0) (turn .1) in
       let there = subst (λ (n : ℕ). Part 0 d n (event (codeOf d (turn .0)))) (k .2) (place-part 0 d (turn .0)) in
       record {
         from = t .0;

@@ -215,7 +215,7 @@ again s b k upper q = cond (another k upper) (entry s b q) apart
 abbrev pub enough : Expr → ℕ → ℕ → Bool
 enough b lower k = leb (low (nullable b) lower) (suc k)
 
--- a step from the place to the other, which has the node
+-- a step leads from the place to the other, which has the node
 abbrev pub Leads : ℕ → (e : Expr) → Place e → ℕ → Place e → Type 0
 Leads s e p q t = (m : List Item) × Step s e p t m × (nodeOf s e t ≡ q)
 
@@ -237,34 +237,40 @@ ends-can-end s (repeat b lower upper) p q w =
 child-turns : {A B : Type 0} (f : A → B) (P : B → Type 0) (x : Way A) → ((a : A) → x ≡ turns a → P (f a)) → (t : B) → mapWay f x ends ≡ turns t → P t
 child-turns f P x below = climb-turns f f P x apart true below (λ e a w. absurd (no-entry a w))
 
--- a turn is a step to that node
-pub turn-leads : (s : ℕ) (e : Expr) (p : Place e) (q : ℕ) (t : Place e) → way s e p q ≡ turns t → Leads s e p q t
-turn-leads s empty p q = absurd p
-turn-leads s (event c) p q = λ t w. absurd (subst⁻¹ Turned w tt)
-turn-leads s (choice l r) (inl p) q = child-turns inl (Leads s (choice l r) (inl p) q) (way s l p q) (turn-leads s l p q)
-turn-leads s (choice l r) (inr p) q =
-    child-turns inr (Leads s (choice l r) (inr p) q) (way (s + size l) r p q) (turn-leads (s + size l) r p q)
-turn-leads s (sequence l r) (inl p) q =
-    let y = entry (s + size l) r q in
-    climb-turns inl inr (Leads s (sequence l r) (inl p) q) (way s l p q) y (nullable r) (turn-leads s l p q) (λ x a w.
-    let k = entry-iff (s + size l) r q a .0 w in
-    (closes s l p ++ opens (s + size l) r a, (ends-can-end s l p q x, k .0, refl), k .1))
-turn-leads s (sequence l r) (inr p) q =
-    child-turns inr (Leads s (sequence l r) (inr p) q) (way (s + size l) r p q) (turn-leads (s + size l) r p q)
-turn-leads s (repeat b lower upper) p q =
-    let within : (a : Place b) → way s b (p .0) q ≡ turns a → Leads s (repeat b lower upper) p q (a, p .1) = λ a w.
-    let k = turn-leads s b (p .0) q a w in
-    (k .0, inl (k .1, refl), k .2) in
-    climb-turns (λ t. (t, p .1)) (λ t. (t, suc (p .1))) (Leads s (repeat b lower upper) p q) (way s b (p .0) q)
-    (again s b (p .1) upper q) (enough b lower (p .1)) within (λ x a w.
+-- where the left part of a sequence ends, an entry into the right is a step
+right-leads : (s : ℕ) (l r : Expr) (p : Place l) (q : ℕ) (a : Place r) → CanEnd l p → entry (s + size l) r q ≡ enters a
+    → Leads s (sequence l r) (inl p) q (inr a)
+right-leads s l r p q a c w =
+    let k = entry-iff (s + size l) r q a .0 w in (closes s l p ++ opens (s + size l) r a, (c, k .0, refl), k .1)
+
+-- a step inside the body of a repeat
+inner-leads : (s : ℕ) (b : Expr) (lower : ℕ) (upper : Upper) (p : Place b × ℕ) (q : ℕ) (a : Place b) → Leads s b (p .0) q a
+    → Leads s (repeat b lower upper) p q (a, p .1)
+inner-leads s b lower upper p q a k = (k .0, inl (k .1, refl), k .2)
+
+-- where the body ends, an entry into one more block is a step
+block-leads : (s : ℕ) (b : Expr) (lower : ℕ) (upper : Upper) (p : Place b × ℕ) (q : ℕ) (a : Place b) → CanEnd b (p .0)
+    → again s b (p .1) upper q ≡ enters a → Leads s (repeat b lower upper) p q (a, suc (p .1))
+block-leads s b lower upper p q a c w =
     let k = entry-behind (another (p .1) upper) (entry s b q) a .0 w in
     let i = entry-iff s b q a .0 (k .1) in
-    let c = closing (s + size b) ∷ opening (s + size b) ∷ opens s b a in
-    (closes s b (p .0) ++ c, inr (ends-can-end s b (p .0) q x, i .0, refl, another-iff (p .1) upper .0 (k .0), refl), i .1))
+    let m = closing (s + size b) ∷ opening (s + size b) ∷ opens s b a in
+    (closes s b (p .0) ++ m, inr (c, i .0, refl, another-iff (p .1) upper .0 (k .0), refl), i .1)
 
 -- a turn is a step to that node
-pub way-step : (s : ℕ) (e : Expr) → Bounded e → (p t : Place e) → Sound e p → (q : ℕ) → way s e p q ≡ turns t → (m : List Item) × Step s e p t m × (nodeOf s e t ≡ q)
-way-step s e h p t k q w = turn-leads s e p q t w
+pub way-step : (s : ℕ) (e : Expr) (p : Place e) (q : ℕ) (t : Place e) → way s e p q ≡ turns t → Leads s e p q t
+way-step s empty p q = absurd p
+way-step s (event c) p q = λ t w. absurd (subst⁻¹ Turned w tt)
+way-step s (choice l r) (inl p) q = child-turns inl (Leads s (choice l r) (inl p) q) (way s l p q) (way-step s l p q)
+way-step s (choice l r) (inr p) q = child-turns inr (Leads s (choice l r) (inr p) q) (way (s + size l) r p q) (way-step (s + size l) r p q)
+way-step s (sequence l r) (inl p) q =
+    climb-turns inl inr (Leads s (sequence l r) (inl p) q) (way s l p q) (entry (s + size l) r q) (nullable r) (way-step s l p q)
+    (λ x a w. right-leads s l r p q a (ends-can-end s l p q x) w)
+way-step s (sequence l r) (inr p) q = child-turns inr (Leads s (sequence l r) (inr p) q) (way (s + size l) r p q) (way-step (s + size l) r p q)
+way-step s (repeat b lower upper) p q =
+    climb-turns (λ t. (t, p .1)) (λ t. (t, suc (p .1))) (Leads s (repeat b lower upper) p q) (way s b (p .0) q)
+    (again s b (p .1) upper q) (enough b lower (p .1)) (λ a w. inner-leads s b lower upper p q a (way-step s b (p .0) q a w))
+    (λ x a w. block-leads s b lower upper p q a (ends-can-end s b (p .0) q x) w)
 
 -- ---- a step is a turn
 
@@ -321,7 +327,7 @@ turned-to stuck h = absurd h
 pub step-way : (s : ℕ) (e : Expr) → Bounded e → Free e → (p t : Place e) → Sound e p → (m : List Item) → Step s e p t m → way s e p (nodeOf s e t) ≡ turns t
 step-way s e h f p t k m w =
     let turn = turned-to (way s e p (nodeOf s e t)) (step-turned s e p t m w) in
-    let z = turn-leads s e p (nodeOf s e t) (turn .0) (turn .1) in
+    let z = way-step s e p (nodeOf s e t) (turn .0) (turn .1) in
     let same = step-unique s e h f p k (turn .0) t (z .0) m (z .1) w (node-code s e (turn .0) t (z .2)) in
     turn .1 ∙ ap turns (same .0)
 
@@ -331,7 +337,7 @@ way-ends s e p q h = (ends-can-end s e p q, λ c. unstuck-ends (way s e p q) ref
   where
     unstuck-ends : (x : Way (Place e)) → way s e p q ≡ x → Unstuck x → x ≡ ends
     unstuck-ends (turns t) w u =
-        let z = turn-leads s e p q t w .2 in
+        let z = way-step s e p q t w .2 in
         let below = node-below s e t in
         absurd (omega arith)
     unstuck-ends ends w u = refl
