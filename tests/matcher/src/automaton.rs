@@ -279,7 +279,7 @@ fn ends_of_parts(tree: &Tree, order: fn(&Tree, Node) -> (Node, Node)) -> Vec<Vec
 #[cfg(test)]
 mod tests {
     use super::Automaton;
-    use crate::notation::tree;
+    use crate::parse::tree;
     use std::rc::Rc;
 
     fn deterministic(text: &str) -> bool {

@@ -88,7 +88,7 @@ fn at_sequence(tree: &crate::tree::Tree, node: Node, sets: &dyn Sets) -> (u32, u
 mod tests {
     use super::{lowest, Conflict};
     use crate::automaton::Automaton;
-    use crate::notation::tree;
+    use crate::parse::tree;
     use crate::words::Words;
     use std::rc::Rc;
 

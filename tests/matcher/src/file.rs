@@ -153,3 +153,98 @@ fn write_trailer(file: &mut Vec<u8>, count: usize) {
     file.extend(1u16.to_le_bytes());
     file.extend(((TRAILER + RECORD * count) as u32).to_le_bytes());
 }
+
+#[cfg(test)]
+mod tests {
+    use super::{read, write, Refusal};
+    use crate::tree::{Bounds, Symbol};
+
+    const A: Symbol = Symbol::Event(0);
+    const ANY: Symbol = Symbol::Repeat(Bounds { lower: 0, upper: None });
+
+    fn refusal(file: &[u8]) -> Option<(u32, usize)> {
+        read(file).err().map(|Refusal { answer, node }| (answer, node))
+    }
+
+    /// The file with a byte of a node's record changed.
+    fn changed(symbols: &[Symbol], node: usize, byte: usize, to: u8) -> Vec<u8> {
+        let mut file = write(&[], symbols);
+        file[8 * node + byte] = to;
+        file
+    }
+
+    #[test]
+    fn a_file_is_read_as_it_is_written() {
+        let symbols = [A, ANY, Symbol::Empty, Symbol::Choice, Symbol::Event(63), Symbol::Sequence];
+        let file = write(b"text", &symbols);
+        assert_eq!(file.len(), 4 + 8 * 6 + 12);
+        assert_eq!(read(&file).unwrap().symbols(), symbols);
+        let repeat = [4, 0, 0, 0, 0, 0, 255, 255];
+        assert_eq!(file[12..20], repeat);
+        assert_eq!(file[28..36], [2, 0, 1, 0, 2, 0, 0, 0]);
+        assert_eq!(file[52..], [b'S', b'E', b'Q', b'P', 6, 0, 1, 0, 60, 0, 0, 0]);
+    }
+
+    #[test]
+    fn every_byte_of_a_record_is_judged() {
+        let symbols = [A, Symbol::Empty, Symbol::Choice, ANY];
+        for (node, byte, to, told) in [
+            (0, 0, 5, Some((4, 0))), (0, 1, 63, None), (0, 1, 64, Some((4, 0))),
+            (0, 2, 1, Some((4, 0))), (0, 5, 1, Some((4, 0))), (0, 7, 1, Some((4, 0))),
+            (1, 1, 1, Some((4, 1))), (1, 3, 1, Some((4, 1))), (1, 6, 1, Some((4, 1))),
+            (2, 1, 1, Some((4, 2))), (2, 6, 1, Some((4, 2))), (2, 7, 1, Some((4, 2))),
+            (2, 2, 1, Some((5, 2))), (2, 3, 1, Some((5, 2))), (2, 4, 0, Some((5, 2))), (2, 5, 1, Some((5, 2))),
+            (3, 1, 1, Some((4, 3))), (3, 2, 1, Some((5, 3))), (3, 3, 1, Some((5, 3))),
+            (3, 4, 255, None), (3, 5, 16, None), (3, 5, 17, Some((4, 3))),
+            (3, 6, 254, Some((4, 3))), (3, 7, 254, Some((4, 3))),
+        ] {
+            assert_eq!(refusal(&changed(&symbols, node, byte, to)), told, "node {node} byte {byte} to {to}");
+        }
+    }
+
+    /// All records are judged before any order.
+    #[test]
+    fn records_go_before_order() {
+        let mut file = write(&[], &[ANY, A, A, Symbol::Event(64)]);
+        assert_eq!(refusal(&file), Some((4, 3)));
+        file[8 * 3 + 1] = 0;
+        assert_eq!(refusal(&file), Some((5, 0)));
+    }
+
+    /// A child before node 0 is told as 65,535 and still does not exist.
+    #[test]
+    fn missing_children_break_the_order() {
+        assert_eq!(refusal(&write(&[], &[ANY])), Some((5, 0)));
+        assert_eq!(refusal(&write(&[], &[A, Symbol::Choice])), Some((5, 1)));
+        assert_eq!(refusal(&write(&[], &[A, A])), Some((5, 1)));
+        assert_eq!(refusal(&write(&[], &[A, A, ANY, A])), Some((5, 3)));
+        assert_eq!(refusal(&write(&[], &[A, A, Symbol::Choice])), None);
+    }
+
+    #[test]
+    fn order_goes_before_the_number_of_repeats() {
+        let mut symbols = vec![A];
+        symbols.extend(vec![ANY; 33]);
+        assert_eq!(refusal(&write(&[], &symbols)), Some((6, 33)));
+        symbols.push(A);
+        assert_eq!(refusal(&write(&[], &symbols)), Some((5, 34)));
+    }
+
+    /// 20 bytes that claim 512 nodes.
+    #[test]
+    fn nodes_longer_than_the_file() {
+        let mut file = write(&[], &[A]);
+        file[12..14].copy_from_slice(&512u16.to_le_bytes());
+        file[16..18].copy_from_slice(&4_108u16.to_le_bytes());
+        assert_eq!(refusal(&file), Some((3, 0)));
+    }
+
+    #[test]
+    fn every_byte_of_the_trailer_is_judged() {
+        for (byte, answer) in [(0, 2), (1, 2), (2, 2), (3, 2), (4, 3), (5, 3), (6, 2), (7, 2), (8, 3), (9, 3), (10, 3), (11, 3)] {
+            let mut file = write(&[], &[A]);
+            file[8 + byte] ^= 2;
+            assert_eq!(refusal(&file), Some((answer, 0)), "byte {byte}");
+        }
+    }
+}

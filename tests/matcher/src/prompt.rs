@@ -45,7 +45,8 @@ fn bit(tree: &Tree, event: Node) -> u64 {
 #[cfg(test)]
 mod tests {
     use super::{following_by_automaton, following_by_listing, loosened};
-    use crate::notation::{show, tree};
+    use crate::notation::show;
+    use crate::parse::tree;
     use std::rc::Rc;
 
     fn prompt(text: &str, node: Option<usize>) -> u64 {

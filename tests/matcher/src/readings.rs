@@ -296,7 +296,7 @@ fn fewest_to_end(ways: &[(Stack, Ways)]) -> HashMap<Stack, usize> {
 #[cfg(test)]
 mod tests {
     use super::{Explored, Listing, HORIZON};
-    use crate::notation::tree;
+    use crate::parse::tree;
     use crate::record::Item;
 
     fn strong(text: &str) -> bool {

@@ -5,7 +5,6 @@ use crate::record::Item;
 use crate::tree::{Node, Tree};
 
 pub const STATE_BYTES: usize = 66;
-pub const COUNTERS: usize = 32;
 
 /// The start, or the event node reached with the number of blocks begun in
 /// each repeat around it, as far as a state tells them.

@@ -196,6 +196,7 @@ impl<'t> Words<'t> {
     }
 
     /// Whether the run is a word of the tree.
+    #[cfg(test)]
     pub fn is_word(&self, run: &[u8]) -> bool {
         let mut rests = vec![self.whole(self.tree.root())];
         for &code in run {
@@ -215,7 +216,7 @@ fn push(rest: &mut Rest, piece: Piece) {
 #[cfg(test)]
 mod tests {
     use super::Words;
-    use crate::notation::tree;
+    use crate::parse::tree;
 
     fn words_up_to(text: &str, most: usize) -> Vec<String> {
         let tree = tree(text);
