@@ -2,6 +2,7 @@
 //! node and one for the start, a counter for each repeat, and moves with
 //! guards on the counters.
 
+use crate::guard::{Guard, Range};
 use crate::record::Item;
 use crate::state::Place;
 use crate::tree::{Bounds, Node, Symbol, Tree};
@@ -22,36 +23,6 @@ pub struct Move {
     entered: usize,
 }
 
-/// A range that a counter must lie in, by the rank of its repeat.
-#[derive(Clone, Copy, Debug)]
-struct Range {
-    rank: usize,
-    least: u32,
-    most: u32,
-}
-
-/// A condition on counters; one that is not named is free.
-#[derive(Clone, Debug)]
-pub struct Guard(Vec<Range>);
-
-impl Guard {
-    fn holds(&self, place: &Place) -> bool {
-        self.0.iter().all(|range| (range.least..=range.most).contains(&place.counts[range.rank]))
-    }
-
-    /// Whether some counters meet both. Counters are reached independently
-    /// of each other, so each is looked at by itself.
-    pub fn meets(&self, other: &Guard) -> bool {
-        self.0.iter().chain(&other.0).all(|range| {
-            let same = |two: &&Range| two.rank == range.rank;
-            let both = || self.0.iter().chain(&other.0).filter(same);
-            let least = both().map(|range| range.least).max();
-            let most = both().map(|range| range.most).min();
-            least <= most
-        })
-    }
-}
-
 /// The automaton of one tree.
 pub struct Automaton {
     pub tree: Rc<Tree>,
@@ -68,21 +39,39 @@ impl Automaton {
         let first = ends_of_parts(&tree, |tree, node| (tree.left(node), tree.right(node)));
         let last = ends_of_parts(&tree, |tree, node| (tree.right(node), tree.left(node)));
         let moves = vec![Vec::new(); tree.len()];
-        let mut automaton = Automaton { tree, first, last, starts: Vec::new(), moves };
+        let mut automaton = Automaton {
+            tree,
+            first,
+            last,
+            starts: Vec::new(),
+            moves,
+        };
         let root = automaton.tree.root();
-        automaton.starts = automaton.first[root].iter().map(|&to| automaton.start_move(to)).collect();
+        automaton.starts = automaton.first[root]
+            .iter()
+            .map(|&to| automaton.start_move(to))
+            .collect();
         for node in 0..automaton.tree.len() {
             automaton.add_moves(node);
         }
         let tree = Rc::clone(&automaton.tree);
         automaton.starts.sort_by_key(|step| tree.code(step.to));
-        automaton.moves.iter_mut().for_each(|moves| moves.sort_by_key(|step| tree.code(step.to)));
+        automaton
+            .moves
+            .iter_mut()
+            .for_each(|moves| moves.sort_by_key(|step| tree.code(step.to)));
         automaton
     }
 
     fn start_move(&self, to: Node) -> Move {
         let entered = self.tree.around(to).len();
-        Move { to, by: self.tree.root(), left: 0, again: false, entered }
+        Move {
+            to,
+            by: self.tree.root(),
+            left: 0,
+            again: false,
+            entered,
+        }
     }
 
     /// The triples that one subexpression gives, as in section 6.2.
@@ -92,7 +81,11 @@ impl Automaton {
             Symbol::Repeat(_) => true,
             _ => return,
         };
-        let from = if again { self.tree.body(by) } else { self.tree.left(by) };
+        let from = if again {
+            self.tree.body(by)
+        } else {
+            self.tree.left(by)
+        };
         let onto = by - 1;
         // A repeat that goes round stays around both events.
         let shared = self.tree.around(by).len() + usize::from(again);
@@ -100,7 +93,13 @@ impl Automaton {
             let left = self.tree.around(event).len() - shared;
             for &to in &self.first[onto] {
                 let entered = self.tree.around(to).len() - shared;
-                self.moves[event].push(Move { to, by, left, again, entered });
+                self.moves[event].push(Move {
+                    to,
+                    by,
+                    left,
+                    again,
+                    entered,
+                });
             }
         }
     }
@@ -121,21 +120,35 @@ impl Automaton {
     /// The value test: a repeat may be left.
     fn leaving(&self, repeat: Node) -> Range {
         let Bounds { lower, .. } = self.tree.normal_bounds(repeat);
-        Range { rank: self.tree.rank(repeat), least: lower.max(1), most: self.tree.cap(repeat) }
+        Range {
+            rank: self.tree.rank(repeat),
+            least: lower.max(1),
+            most: self.tree.cap(repeat),
+        }
     }
 
     /// The upper bound test: a repeat may have another block.
     fn repeating(&self, repeat: Node) -> Range {
         let cap = self.tree.cap(repeat);
-        let most = self.tree.bounds(repeat).upper.map_or(cap, |upper| upper - 1);
-        Range { rank: self.tree.rank(repeat), least: 1, most }
+        let most = self
+            .tree
+            .bounds(repeat)
+            .upper
+            .map_or(cap, |upper| upper - 1);
+        Range {
+            rank: self.tree.rank(repeat),
+            least: 1,
+            most,
+        }
     }
 
     /// The condition under which a move from an event is possible.
     pub fn guard(&self, from: Option<Node>, step: &Move) -> Guard {
         let around = from.map_or(&[][..], |node| self.tree.around(node));
-        let mut ranges: Vec<Range> =
-            around[..step.left].iter().map(|&repeat| self.leaving(repeat)).collect();
+        let mut ranges: Vec<Range> = around[..step.left]
+            .iter()
+            .map(|&repeat| self.leaving(repeat))
+            .collect();
         if step.again {
             ranges.push(self.repeating(step.by));
         }
@@ -151,24 +164,41 @@ impl Automaton {
     /// The condition under which a part may end at one of its last events.
     pub fn acceptance(&self, event: Node, part: Node) -> Guard {
         let inside = |repeat: &&Node| self.tree.holds(part, **repeat);
-        Guard(self.tree.around(event).iter().filter(inside).map(|&repeat| self.leaving(repeat)).collect())
+        Guard(
+            self.tree
+                .around(event)
+                .iter()
+                .filter(inside)
+                .map(|&repeat| self.leaving(repeat))
+                .collect(),
+        )
     }
 
     fn allows(&self, place: &Place, step: &Move) -> bool {
         let around = place.node.map_or(&[][..], |node| self.tree.around(node));
         let count = |repeat: Node| place.counts[self.tree.rank(repeat)];
-        around[..step.left].iter().all(|&repeat| self.tree.normal_bounds(repeat).lower <= count(repeat))
+        around[..step.left]
+            .iter()
+            .all(|&repeat| self.tree.normal_bounds(repeat).lower <= count(repeat))
             && (!step.again || self.tree.bounds(step.by).has_room_after(count(step.by)))
     }
 
     /// The moves that the counters at a place allow.
     pub fn allowed<'a>(&'a self, place: &'a Place) -> impl Iterator<Item = &'a Move> + 'a {
-        self.moves_from(place.node).iter().filter(|step| self.allows(place, step))
+        self.moves_from(place.node)
+            .iter()
+            .filter(|step| self.allows(place, step))
     }
 
     /// The moves with a code that the counters at a place allow.
-    pub fn allowed_by<'a>(&'a self, place: &'a Place, code: u8) -> impl Iterator<Item = &'a Move> + 'a {
-        self.moves_by_code(place.node, code).iter().filter(|step| self.allows(place, step))
+    pub fn allowed_by<'a>(
+        &'a self,
+        place: &'a Place,
+        code: u8,
+    ) -> impl Iterator<Item = &'a Move> + 'a {
+        self.moves_by_code(place.node, code)
+            .iter()
+            .filter(|step| self.allows(place, step))
     }
 
     /// Changes a place as the move's updates tell.
@@ -190,7 +220,11 @@ impl Automaton {
     /// Adds the marks that a move passes, and its event.
     pub fn add_items(&self, from: Option<Node>, step: &Move, items: &mut Vec<Item>) {
         let around = from.map_or(&[][..], |node| self.tree.around(node));
-        items.extend(around[..step.left].iter().map(|&repeat| Item::Closing(repeat)));
+        items.extend(
+            around[..step.left]
+                .iter()
+                .map(|&repeat| Item::Closing(repeat)),
+        );
         if step.again {
             items.extend([Item::Closing(step.by), Item::Opening(step.by)]);
         }
@@ -205,26 +239,39 @@ impl Automaton {
         let Some(node) = place.node else {
             return self.tree.nullable(root).then(Vec::new);
         };
-        let ends = self.last[root].binary_search(&node).is_ok() && self.acceptance(node, root).holds(place);
-        ends.then(|| self.tree.around(node).iter().map(|&repeat| Item::Closing(repeat)).collect())
+        let ends = self.last[root].binary_search(&node).is_ok()
+            && self.acceptance(node, root).holds(place);
+        ends.then(|| {
+            self.tree
+                .around(node)
+                .iter()
+                .map(|&repeat| Item::Closing(repeat))
+                .collect()
+        })
     }
 
     /// Whether no reachable place allows two moves with one code: theorem 9
     /// calls the tree strongly deterministic then.
     pub fn is_deterministic(&self) -> bool {
         let events = self.tree.events().map(Some);
-        std::iter::once(None).chain(events).all(|from| self.is_deterministic_at(from))
+        std::iter::once(None)
+            .chain(events)
+            .all(|from| self.is_deterministic_at(from))
     }
 
     fn is_deterministic_at(&self, from: Option<Node>) -> bool {
         let moves = self.moves_from(from);
         let code_of = |step: &Move| self.tree.code(step.to);
-        moves.chunk_by(|one, two| code_of(one) == code_of(two)).all(|same| {
-            same.iter().enumerate().all(|(place, one)| {
-                let guard = self.guard(from, one);
-                same[place + 1..].iter().all(|two| !guard.meets(&self.guard(from, two)))
+        moves
+            .chunk_by(|one, two| code_of(one) == code_of(two))
+            .all(|same| {
+                same.iter().enumerate().all(|(place, one)| {
+                    let guard = self.guard(from, one);
+                    same[place + 1..]
+                        .iter()
+                        .all(|two| !guard.meets(&self.guard(from, two)))
+                })
             })
-        })
     }
 
     /// Whether the items are those of a reading, event by event.
@@ -317,7 +364,9 @@ mod tests {
 
     #[test]
     fn bounds_too_large_to_list() {
-        assert!(deterministic("(a{4096,4096}){0,4096}a{2,2}b") == deterministic("(a{2,2}){0,3}a{2,2}b"));
+        assert!(
+            deterministic("(a{4096,4096}){0,4096}a{2,2}b") == deterministic("(a{2,2}){0,3}a{2,2}b")
+        );
         assert!(deterministic("((a{4096,4096}){4096,4096}b){0,}"));
         assert!(!deterministic("((a{4095,4096}){4096,4096}b){0,}"));
     }

@@ -18,7 +18,12 @@ fn run_of(text: &str) -> Vec<u8> {
 
 fn judged(text: &str) -> (u32, usize, u32, u32) {
     match judge(&file_of(text)) {
-        Outcome::Judge { answer, node, kind, code } => (answer, node, kind, code),
+        Outcome::Judge {
+            answer,
+            node,
+            kind,
+            code,
+        } => (answer, node, kind, code),
         other => panic!("{other:?}"),
     }
 }
@@ -26,7 +31,12 @@ fn judged(text: &str) -> (u32, usize, u32, u32) {
 /// Answer, taken and verdict of a run from the start, and the counters after.
 fn followed(text: &str, run: &str) -> (u32, usize, u32, Vec<u32>) {
     match follow(&file_of(text), &START, &run_of(run)) {
-        Outcome::Follow { answer, taken, verdict, state } => {
+        Outcome::Follow {
+            answer,
+            taken,
+            verdict,
+            state,
+        } => {
             let place = Place::read(&tree(text), &state).expect("a state that is reached");
             (answer, taken, verdict, place.counts)
         }
@@ -42,13 +52,24 @@ fn verdict(text: &str, run: &str) -> (usize, u32) {
 
 /// The numbers of a run's record, which Check must know again.
 fn recorded(text: &str, run: &str) -> Vec<u16> {
-    let Outcome::Write { answer: 0, length, space } = write(&file_of(text), &run_of(run), &[7; 100]) else {
+    let Outcome::Write {
+        answer: 0,
+        length,
+        space,
+    } = write(&file_of(text), &run_of(run), &[7; 100])
+    else {
         panic!("{text} has no record of {run}");
     };
     assert!(space[length..].iter().all(|&byte| byte == 7));
     let record = &space[..length];
-    assert_eq!(check(&file_of(text), record), Outcome::Check { answer: 0, yes: 1 });
-    record.chunks(2).map(|pair| u16::from_le_bytes([pair[0], pair[1]])).collect()
+    assert_eq!(
+        check(&file_of(text), record),
+        Outcome::Check { answer: 0, yes: 1 }
+    );
+    record
+        .chunks(2)
+        .map(|pair| u16::from_le_bytes([pair[0], pair[1]]))
+        .collect()
 }
 
 #[test]
@@ -97,9 +118,15 @@ fn bench_runs() {
 
 #[test]
 fn bench_records() {
-    assert_eq!(recorded("a{2,2}a", "aaa"), [4097, 0, 8193, 4097, 0, 8193, 2]);
+    assert_eq!(
+        recorded("a{2,2}a", "aaa"),
+        [4097, 0, 8193, 4097, 0, 8193, 2]
+    );
     assert_eq!(recorded("(a+e){3,3}", "a"), [4099, 0, 8195]);
-    assert_eq!(recorded("(ab){1,2}", "abab"), [4099, 0, 1, 8195, 4099, 0, 1, 8195]);
+    assert_eq!(
+        recorded("(ab){1,2}", "abab"),
+        [4099, 0, 1, 8195, 4099, 0, 1, 8195]
+    );
     assert_eq!(recorded("e", ""), []);
 }
 
@@ -134,7 +161,10 @@ fn follow_state(text: &str, state: &[u8], events: &[u8]) -> Outcome {
 }
 
 fn state_bytes(numbers: &[u16]) -> Vec<u8> {
-    let mut bytes: Vec<u8> = numbers.iter().flat_map(|number| number.to_le_bytes()).collect();
+    let mut bytes: Vec<u8> = numbers
+        .iter()
+        .flat_map(|number| number.to_le_bytes())
+        .collect();
     bytes.resize(STATE_BYTES, 0);
     bytes
 }
@@ -157,11 +187,23 @@ fn a_state_that_no_run_reaches_is_refused() {
         state_bytes(&[65_535, 0]),
     ];
     for state in wrong {
-        let refused = Outcome::Follow { answer: 8, taken: 0, verdict: 0, state: state.clone() };
+        let refused = Outcome::Follow {
+            answer: 8,
+            taken: 0,
+            verdict: 0,
+            state: state.clone(),
+        };
         assert_eq!(follow_state(text, &state, &[0]), refused);
-        assert_eq!(prompt(&file_of(text), &state), Outcome::Prompt { answer: 8, set: 0 });
+        assert_eq!(
+            prompt(&file_of(text), &state),
+            Outcome::Prompt { answer: 8, set: 0 }
+        );
     }
-    for state in [state_bytes(&[1, 1]), state_bytes(&[1, 4]), state_bytes(&[3, 0])] {
+    for state in [
+        state_bytes(&[1, 1]),
+        state_bytes(&[1, 4]),
+        state_bytes(&[3, 0]),
+    ] {
         assert_eq!(follow_state(text, &state, &[]).answer(), 0);
     }
 }
@@ -169,17 +211,36 @@ fn a_state_that_no_run_reaches_is_refused() {
 /// A break is not kept: the state stands after the events taken.
 #[test]
 fn a_break_leaves_the_state_after_those_taken() {
-    let Outcome::Follow { taken: 2, verdict: 2, state, .. } = follow_state("a{2,4}b", &START, &[0, 0, 64, 1]) else {
+    let Outcome::Follow {
+        taken: 2,
+        verdict: 2,
+        state,
+        ..
+    } = follow_state("a{2,4}b", &START, &[0, 0, 64, 1])
+    else {
         panic!("two events continue");
     };
     assert_eq!(state, state_bytes(&[1, 2]));
     let after = follow_state("a{2,4}b", &state, &[1]);
-    assert_eq!(after, Outcome::Follow { answer: 0, taken: 1, verdict: 0, state: state_bytes(&[3]) });
+    assert_eq!(
+        after,
+        Outcome::Follow {
+            answer: 0,
+            taken: 1,
+            verdict: 0,
+            state: state_bytes(&[3])
+        }
+    );
 }
 
 #[test]
 fn files_are_refused_before_states() {
-    let refused = Outcome::Follow { answer: 7, taken: 0, verdict: 0, state: vec![1] };
+    let refused = Outcome::Follow {
+        answer: 7,
+        taken: 0,
+        verdict: 0,
+        state: vec![1],
+    };
     assert_eq!(follow_state("a+a", &[1], &[]), refused);
     assert_eq!(follow(&[], &[], &[]).answer(), 1);
 }
@@ -187,17 +248,38 @@ fn files_are_refused_before_states() {
 #[test]
 fn write_refuses_in_turn() {
     let endless = file_of("a{0,}");
-    let unchanged = |answer| Outcome::Write { answer, length: 0, space: vec![5; 5] };
+    let unchanged = |answer| Outcome::Write {
+        answer,
+        length: 0,
+        space: vec![5; 5],
+    };
     assert_eq!(write(&endless, &[1; 65_537], &[5; 5]), unchanged(9));
     assert_eq!(write(&endless, &[64], &[5; 5]), unchanged(10));
     assert_eq!(write(&endless, &[0; 65_536], &[5; 5]), unchanged(11));
     assert_eq!(write(&endless, &[0], &[5; 5]), unchanged(11));
-    assert_eq!(write(&endless, &[0], &[5; 6]), Outcome::Write { answer: 0, length: 6, space: vec![1, 16, 0, 0, 1, 32] });
-    assert_eq!(write(&file_of("e"), &[], &[]), Outcome::Write { answer: 0, length: 0, space: vec![] });
+    assert_eq!(
+        write(&endless, &[0], &[5; 6]),
+        Outcome::Write {
+            answer: 0,
+            length: 6,
+            space: vec![1, 16, 0, 0, 1, 32]
+        }
+    );
+    assert_eq!(
+        write(&file_of("e"), &[], &[]),
+        Outcome::Write {
+            answer: 0,
+            length: 0,
+            space: vec![]
+        }
+    );
 }
 
 fn checked(text: &str, numbers: &[u16]) -> u32 {
-    let record: Vec<u8> = numbers.iter().flat_map(|number| number.to_le_bytes()).collect();
+    let record: Vec<u8> = numbers
+        .iter()
+        .flat_map(|number| number.to_le_bytes())
+        .collect();
     match check(&file_of(text), &record) {
         Outcome::Check { answer: 0, yes } => yes,
         other => panic!("{other:?}"),
@@ -208,9 +290,21 @@ fn checked(text: &str, numbers: &[u16]) -> u32 {
 #[test]
 fn check_knows_records_of_conflicted_files() {
     let text = "(a{1,2}){1,2}";
-    assert_eq!(checked(text, &[4098, 4097, 0, 8193, 8194, 4098, 4097, 0, 8193, 8194]), 1);
-    assert_eq!(checked(text, &[4098, 4097, 0, 8193, 4097, 0, 8193, 8194]), 1);
-    assert_eq!(checked(text, &[4098, 4097, 0, 8193, 8193, 4097, 0, 8193, 8194]), 0);
+    assert_eq!(
+        checked(
+            text,
+            &[4098, 4097, 0, 8193, 8194, 4098, 4097, 0, 8193, 8194]
+        ),
+        1
+    );
+    assert_eq!(
+        checked(text, &[4098, 4097, 0, 8193, 4097, 0, 8193, 8194]),
+        1
+    );
+    assert_eq!(
+        checked(text, &[4098, 4097, 0, 8193, 8193, 4097, 0, 8193, 8194]),
+        0
+    );
     assert_eq!(checked("a+ab", &[0]), 1);
     assert_eq!(checked("a+ab", &[1, 2]), 1);
     assert_eq!(checked("a+ab", &[0, 2]), 0);
@@ -218,12 +312,23 @@ fn check_knows_records_of_conflicted_files() {
 
 #[test]
 fn what_is_no_record() {
-    for numbers in [&[4097, 8193][..], &[4097, 0], &[0, 8193], &[12289, 0, 8193], &[4097, 2, 8193], &[4097, 1, 8193], &[4099, 0, 8193]] {
+    for numbers in [
+        &[4097, 8193][..],
+        &[4097, 0],
+        &[0, 8193],
+        &[12289, 0, 8193],
+        &[4097, 2, 8193],
+        &[4097, 1, 8193],
+        &[4099, 0, 8193],
+    ] {
         assert_eq!(checked("a{0,2}", numbers), 0, "{numbers:?}");
     }
     assert_eq!(checked("a{0,2}", &[]), 1);
     assert_eq!(checked("a{1,2}", &[]), 0);
-    assert_eq!(check(&file_of("e"), &[0]), Outcome::Check { answer: 0, yes: 0 });
+    assert_eq!(
+        check(&file_of("e"), &[0]),
+        Outcome::Check { answer: 0, yes: 0 }
+    );
     assert_eq!(check(&[0], &[0]), Outcome::Check { answer: 1, yes: 0 });
 }
 
@@ -231,7 +336,16 @@ fn what_is_no_record() {
 fn prompts() {
     let set = |text: &str, state: &[u16]| prompt(&file_of(text), &state_bytes(state));
     assert_eq!(set("a{2,2}b", &[]), Outcome::Prompt { answer: 0, set: 1 });
-    assert_eq!(set("a{2,2}b", &[1, 2]), Outcome::Prompt { answer: 0, set: 3 });
-    assert_eq!(set("a{0,1}#63", &[1, 1]), Outcome::Prompt { answer: 0, set: 1 << 63 });
+    assert_eq!(
+        set("a{2,2}b", &[1, 2]),
+        Outcome::Prompt { answer: 0, set: 3 }
+    );
+    assert_eq!(
+        set("a{0,1}#63", &[1, 1]),
+        Outcome::Prompt {
+            answer: 0,
+            set: 1 << 63
+        }
+    );
     assert_eq!(set("e", &[]), Outcome::Prompt { answer: 0, set: 0 });
 }

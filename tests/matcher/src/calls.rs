@@ -4,9 +4,10 @@
 
 use crate::automaton::Automaton;
 use crate::conflict::{self, Conflict};
+use crate::explored::Explored;
 use crate::file;
 use crate::prompt;
-use crate::readings::{Explored, Listing, HORIZON};
+use crate::readings::{Listing, HORIZON};
 use crate::record::{self, Item};
 use crate::state::Place;
 use crate::tree::{Symbol, Tree};
@@ -18,21 +19,57 @@ pub const MOST_EVENTS: usize = 65_536;
 /// A call with all that is handed over.
 #[derive(Clone, Debug)]
 pub enum Call {
-    Judge { file: Vec<u8> },
-    Follow { file: Vec<u8>, state: Vec<u8>, events: Vec<u8> },
-    Write { file: Vec<u8>, run: Vec<u8>, space: Vec<u8> },
-    Check { file: Vec<u8>, record: Vec<u8> },
-    Prompt { file: Vec<u8>, state: Vec<u8> },
+    Judge {
+        file: Vec<u8>,
+    },
+    Follow {
+        file: Vec<u8>,
+        state: Vec<u8>,
+        events: Vec<u8>,
+    },
+    Write {
+        file: Vec<u8>,
+        run: Vec<u8>,
+        space: Vec<u8>,
+    },
+    Check {
+        file: Vec<u8>,
+        record: Vec<u8>,
+    },
+    Prompt {
+        file: Vec<u8>,
+        state: Vec<u8>,
+    },
 }
 
 /// All that a call gives, lent space included.
 #[derive(Clone, Debug, PartialEq, Eq)]
 pub enum Outcome {
-    Judge { answer: u32, node: usize, kind: u32, code: u32 },
-    Follow { answer: u32, taken: usize, verdict: u32, state: Vec<u8> },
-    Write { answer: u32, length: usize, space: Vec<u8> },
-    Check { answer: u32, yes: u32 },
-    Prompt { answer: u32, set: u64 },
+    Judge {
+        answer: u32,
+        node: usize,
+        kind: u32,
+        code: u32,
+    },
+    Follow {
+        answer: u32,
+        taken: usize,
+        verdict: u32,
+        state: Vec<u8>,
+    },
+    Write {
+        answer: u32,
+        length: usize,
+        space: Vec<u8>,
+    },
+    Check {
+        answer: u32,
+        yes: u32,
+    },
+    Prompt {
+        answer: u32,
+        set: u64,
+    },
 }
 
 impl Outcome {
@@ -59,13 +96,29 @@ impl Procedure {
         let tree = Rc::new(tree);
         let automaton = Automaton::new(Rc::clone(&tree));
         let conflict = conflict::lowest(&tree, &automaton);
-        assert_eq!(conflict.is_none(), automaton.is_deterministic(), "a conflict against the automaton");
+        assert_eq!(
+            conflict.is_none(),
+            automaton.is_deterministic(),
+            "a conflict against the automaton"
+        );
         if listing_settles(&tree) {
             let shown = Explored::new(&mut Listing::new(&tree), HORIZON).shown_at(&tree);
-            assert_eq!(conflict.is_some(), shown.is_some(), "a conflict against the listing");
-            assert_eq!(conflict, conflict::lowest(&tree, &Words::new(&tree)), "a conflict against words");
+            assert_eq!(
+                conflict.is_some(),
+                shown.is_some(),
+                "a conflict against the listing"
+            );
+            assert_eq!(
+                conflict,
+                conflict::lowest(&tree, &Words::new(&tree)),
+                "a conflict against words"
+            );
         }
-        Procedure { tree, automaton, conflict }
+        Procedure {
+            tree,
+            automaton,
+            conflict,
+        }
     }
 
     /// The procedure of a file that is answered with 0 by Judge.
@@ -91,7 +144,11 @@ fn listing_settles(tree: &Tree) -> bool {
 pub fn answer(call: &Call) -> Outcome {
     match call {
         Call::Judge { file } => judge(file),
-        Call::Follow { file, state, events } => follow(file, state, events),
+        Call::Follow {
+            file,
+            state,
+            events,
+        } => follow(file, state, events),
         Call::Write { file, run, space } => write(file, run, space),
         Call::Check { file, record } => check(file, record),
         Call::Prompt { file, state } => prompt(file, state),
@@ -101,16 +158,38 @@ pub fn answer(call: &Call) -> Outcome {
 pub fn judge(file: &[u8]) -> Outcome {
     let tree = match file::read(file) {
         Ok(tree) => tree,
-        Err(refusal) => return Outcome::Judge { answer: refusal.answer, node: refusal.node, kind: 0, code: 0 },
+        Err(refusal) => {
+            return Outcome::Judge {
+                answer: refusal.answer,
+                node: refusal.node,
+                kind: 0,
+                code: 0,
+            }
+        }
     };
     match Procedure::new(tree).conflict {
-        Some(Conflict { node, kind, code }) => Outcome::Judge { answer: 7, node, kind, code },
-        None => Outcome::Judge { answer: 0, node: 0, kind: 0, code: 0 },
+        Some(Conflict { node, kind, code }) => Outcome::Judge {
+            answer: 7,
+            node,
+            kind,
+            code,
+        },
+        None => Outcome::Judge {
+            answer: 0,
+            node: 0,
+            kind: 0,
+            code: 0,
+        },
     }
 }
 
 pub fn follow(file: &[u8], state: &[u8], events: &[u8]) -> Outcome {
-    let refused = |answer| Outcome::Follow { answer, taken: 0, verdict: 0, state: state.to_vec() };
+    let refused = |answer| Outcome::Follow {
+        answer,
+        taken: 0,
+        verdict: 0,
+        state: state.to_vec(),
+    };
     let procedure = match Procedure::admitted(file) {
         Ok(procedure) => procedure,
         Err(answer) => return refused(answer),
@@ -123,7 +202,11 @@ pub fn follow(file: &[u8], state: &[u8], events: &[u8]) -> Outcome {
     let ends = procedure.automaton.end(&after).is_some();
     assert_eq!(complete, ends, "the end by words against the automaton");
     if let Some(&code) = events.get(taken) {
-        let goes_on = procedure.automaton.allowed_by(&after, code).next().is_some();
+        let goes_on = procedure
+            .automaton
+            .allowed_by(&after, code)
+            .next()
+            .is_some();
         assert!(!goes_on, "the event taken by the automaton alone");
     }
     if taken <= HORIZON {
@@ -134,7 +217,12 @@ pub fn follow(file: &[u8], state: &[u8], events: &[u8]) -> Outcome {
         (true, false) => 1,
         (false, _) => 2,
     };
-    Outcome::Follow { answer: 0, taken, verdict, state: after.write() }
+    Outcome::Follow {
+        answer: 0,
+        taken,
+        verdict,
+        state: after.write(),
+    }
 }
 
 /// How many events continue from the place, and whether a word ends there.
@@ -180,11 +268,18 @@ fn follow_listing(tree: &Tree, place: &Place, events: &[u8], taken: usize, after
     assert_eq!(&place.after(tree, items), after, "the place by listing");
     let steps = listing.ways(*stack).steps;
     let goes_on = |code: u8| steps.iter().any(|step| tree.code(step.node) == Some(code));
-    assert!(!events.get(taken).is_some_and(|&code| goes_on(code)), "the event taken by listing alone");
+    assert!(
+        !events.get(taken).is_some_and(|&code| goes_on(code)),
+        "the event taken by listing alone"
+    );
 }
 
 pub fn write(file: &[u8], run: &[u8], space: &[u8]) -> Outcome {
-    let refused = |answer| Outcome::Write { answer, length: 0, space: space.to_vec() };
+    let refused = |answer| Outcome::Write {
+        answer,
+        length: 0,
+        space: space.to_vec(),
+    };
     let procedure = match Procedure::admitted(file) {
         Ok(procedure) => procedure,
         Err(answer) => return refused(answer),
@@ -201,7 +296,11 @@ pub fn write(file: &[u8], run: &[u8], space: &[u8]) -> Outcome {
     }
     let mut after = space.to_vec();
     after[..bytes.len()].copy_from_slice(&bytes);
-    Outcome::Write { answer: 0, length: bytes.len(), space: after }
+    Outcome::Write {
+        answer: 0,
+        length: bytes.len(),
+        space: after,
+    }
 }
 
 /// The items of the one reading with these codes, if the run is a word.
@@ -212,12 +311,19 @@ pub fn record_of(procedure: &Procedure, run: &[u8]) -> Option<Vec<Item>> {
     let is_word = complete && taken == run.len();
     let items = is_word.then(|| {
         let (items, after) = walk(&procedure.automaton, &start, run);
-        let end = procedure.automaton.end(&after).expect("the end by words alone");
+        let end = procedure
+            .automaton
+            .end(&after)
+            .expect("the end by words alone");
         [items, end].concat()
     });
     if run.len() <= HORIZON {
         let listed = Listing::new(tree).readings_of(run);
-        assert_eq!(listed, items.iter().cloned().collect::<Vec<_>>(), "the readings of a run");
+        assert_eq!(
+            listed,
+            items.iter().cloned().collect::<Vec<_>>(),
+            "the readings of a run"
+        );
     }
     items
 }
@@ -225,18 +331,33 @@ pub fn record_of(procedure: &Procedure, run: &[u8]) -> Option<Vec<Item>> {
 pub fn check(file: &[u8], record: &[u8]) -> Outcome {
     let tree = match file::read(file) {
         Ok(tree) => tree,
-        Err(refusal) => return Outcome::Check { answer: refusal.answer, yes: 0 },
+        Err(refusal) => {
+            return Outcome::Check {
+                answer: refusal.answer,
+                yes: 0,
+            }
+        }
     };
     let Some(items) = record::read(record) else {
         return Outcome::Check { answer: 0, yes: 0 };
     };
-    let events = items.iter().filter(|item| matches!(item, Item::Event(_))).count();
+    let events = items
+        .iter()
+        .filter(|item| matches!(item, Item::Event(_)))
+        .count();
     let automaton = Automaton::new(Rc::new(tree));
     let yes = automaton.is_reading(&items);
     if events <= HORIZON {
-        assert_eq!(yes, Listing::new(&automaton.tree).is_reading(&items), "a reading");
+        assert_eq!(
+            yes,
+            Listing::new(&automaton.tree).is_reading(&items),
+            "a reading"
+        );
     }
-    Outcome::Check { answer: 0, yes: u32::from(yes) }
+    Outcome::Check {
+        answer: 0,
+        yes: u32::from(yes),
+    }
 }
 
 pub fn prompt(file: &[u8], state: &[u8]) -> Outcome {
@@ -250,9 +371,17 @@ pub fn prompt(file: &[u8], state: &[u8]) -> Outcome {
     };
     let loose = Rc::new(prompt::loosened(tree));
     let set = prompt::following_by_automaton(&loose, place.node);
-    assert_eq!(set, prompt::following_by_listing(&loose, place.node), "the prompt");
+    assert_eq!(
+        set,
+        prompt::following_by_listing(&loose, place.node),
+        "the prompt"
+    );
     if place.node.is_none() {
-        assert_eq!(set, Words::new(tree).first(tree.root()), "first of the root");
+        assert_eq!(
+            set,
+            Words::new(tree).first(tree.root()),
+            "first of the root"
+        );
     }
     Outcome::Prompt { answer: 0, set }
 }

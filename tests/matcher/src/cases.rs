@@ -1,93 +1,20 @@
 //! The cases: calls made from a seed, by themes that take turns, so that
 //! every answer of every call comes up often enough whatever the seed.
 
-use crate::calls::{record_of, Call, Procedure, MOST_EVENTS};
+mod writes;
+
+use crate::calls::{Call, Procedure, MOST_EVENTS};
 use crate::damage::{self, FIELDS};
 use crate::grow::{self, SHAPES};
 use crate::limits;
+use crate::parse;
 use crate::random::Random;
 use crate::record;
 use crate::state::{Place, STATE_BYTES};
+use crate::themes::{Theme, Theme as T, BENCH, ROUND};
 use crate::trail::{self, Trail};
 use crate::tree::{Bounds, Symbol, Tree};
 use std::collections::HashMap;
-
-/// What a case is about.
-#[derive(Clone, Copy, Debug, PartialEq, Eq, Hash)]
-enum Theme {
-    Field,
-    Limit,
-    JudgeRefused,
-    JudgeSmall,
-    JudgeAdmitted,
-    JudgeConflicted,
-    JudgeLarge,
-    JudgeRepeats,
-    FollowRefused,
-    FollowWrongState,
-    FollowNested,
-    FollowBroken,
-    FollowAdmitted,
-    FollowLarge,
-    FollowRepeats,
-    FollowLong,
-    WriteRefused,
-    WriteNested,
-    WriteBroken,
-    WriteAdmitted,
-    WriteLarge,
-    WriteRepeats,
-    WriteTooLong,
-    WriteLongest,
-    CheckRefused,
-    CheckRecord,
-    CheckChanged,
-    CheckLarge,
-    PromptRefused,
-    PromptWrongState,
-    PromptNested,
-    PromptAdmitted,
-    PromptLarge,
-}
-
-use Theme as T;
-
-/// How many cases of each theme a round has.
-const ROUND: [(Theme, usize); 33] = [
-    (T::JudgeRefused, 12),
-    (T::Field, 14),
-    (T::Limit, 10),
-    (T::JudgeSmall, 10),
-    (T::JudgeAdmitted, 6),
-    (T::JudgeConflicted, 8),
-    (T::JudgeLarge, 4),
-    (T::JudgeRepeats, 3),
-    (T::FollowRefused, 7),
-    (T::FollowWrongState, 8),
-    (T::FollowNested, 24),
-    (T::FollowBroken, 22),
-    (T::FollowAdmitted, 12),
-    (T::FollowLarge, 4),
-    (T::FollowRepeats, 4),
-    (T::FollowLong, 1),
-    (T::WriteRefused, 7),
-    (T::WriteNested, 26),
-    (T::WriteBroken, 12),
-    (T::WriteAdmitted, 12),
-    (T::WriteLarge, 3),
-    (T::WriteRepeats, 3),
-    (T::WriteTooLong, 1),
-    (T::WriteLongest, 1),
-    (T::CheckRefused, 7),
-    (T::CheckRecord, 16),
-    (T::CheckChanged, 24),
-    (T::CheckLarge, 3),
-    (T::PromptRefused, 7),
-    (T::PromptWrongState, 5),
-    (T::PromptNested, 14),
-    (T::PromptAdmitted, 9),
-    (T::PromptLarge, 3),
-];
 
 /// Makes one call after another.
 pub struct Maker {
@@ -99,8 +26,16 @@ pub struct Maker {
 
 impl Maker {
     pub fn new(seed: u64) -> Maker {
-        let round = ROUND.iter().flat_map(|&(theme, count)| vec![theme; count]).collect();
-        Maker { random: Random::new(seed), round, made: 0, turns: HashMap::new() }
+        let round = ROUND
+            .iter()
+            .flat_map(|&(theme, count)| vec![theme; count])
+            .collect();
+        Maker {
+            random: Random::new(seed),
+            round,
+            made: 0,
+            turns: HashMap::new(),
+        }
     }
 
     /// The next call.
@@ -115,6 +50,7 @@ impl Maker {
 
     fn call(&mut self, theme: Theme, turn: usize) -> Call {
         match theme {
+            T::Bench => self.bench(turn),
             T::Field | T::Limit => self.any_call(theme, turn),
             T::JudgeRefused | T::JudgeSmall | T::JudgeAdmitted => self.judge(theme, turn),
             T::JudgeConflicted | T::JudgeLarge | T::JudgeRepeats => self.judge(theme, turn),
@@ -142,8 +78,12 @@ impl Maker {
     fn procedure(&mut self, theme: Theme, turn: usize) -> Procedure {
         let shape = SHAPES[turn % SHAPES.len()];
         match theme {
-            T::FollowLarge | T::WriteLarge | T::PromptLarge => grow::large_admitted(&mut self.random, shape),
-            T::FollowAdmitted | T::WriteAdmitted | T::PromptAdmitted => grow::admitted(&mut self.random),
+            T::FollowLarge | T::WriteLarge | T::PromptLarge => {
+                grow::large_admitted(&mut self.random, shape)
+            }
+            T::FollowAdmitted | T::WriteAdmitted | T::PromptAdmitted => {
+                grow::admitted(&mut self.random)
+            }
             T::FollowRepeats | T::WriteRepeats => self.admitted_repeats(),
             _ => grow::nested(&mut self.random),
         }
@@ -152,13 +92,57 @@ impl Maker {
     /// 32 repeats, nested or in a row.
     fn admitted_repeats(&mut self) -> Procedure {
         loop {
-            let grow = if self.random.percent(70) { grow::nest } else { grow::row };
+            let grow = if self.random.percent(70) {
+                grow::nest
+            } else {
+                grow::row
+            };
             let symbols = grow(&mut self.random, 32);
             let procedure = Procedure::new(Tree::from_postfix(symbols).expect("a tree"));
             if procedure.conflict.is_none() {
                 return procedure;
             }
         }
+    }
+
+    /// Each bench procedure, each call, short runs over a and b.
+    fn bench(&mut self, turn: usize) -> Call {
+        let procedure = Procedure::new(parse::tree(BENCH[turn % BENCH.len()]));
+        let file = self.file(&procedure.tree);
+        let length = self.random.below(7);
+        let run: Vec<u8> = (0..length)
+            .map(|_| u8::from(self.random.percent(25)))
+            .collect();
+        let state = trail::place(&procedure.automaton, &mut self.random).write();
+        match turn / BENCH.len() % 5 {
+            0 => Call::Follow {
+                file,
+                state: vec![0; STATE_BYTES],
+                events: run,
+            },
+            1 => Call::Write {
+                file,
+                run,
+                space: self.random.bytes(40),
+            },
+            2 => Call::Check {
+                file,
+                record: self.record(&procedure, 6),
+            },
+            3 => Call::Prompt { file, state },
+            _ => Call::Follow {
+                file,
+                state,
+                events: run,
+            },
+        }
+    }
+
+    /// The record of a random reading, or of its beginning.
+    fn record(&mut self, procedure: &Procedure, most: usize) -> Vec<u8> {
+        let trail = Trail::to_an_end(&procedure.automaton, &mut self.random, most);
+        let complete = trail.complete(&procedure.automaton);
+        record::write(&complete.map_or(trail.items, |(_, items)| items))
     }
 
     /// Files damaged in a field, or at a limit, for each call in turn.
@@ -169,9 +153,20 @@ impl Maker {
         };
         let (state, run) = (vec![0; STATE_BYTES], vec![0; turn % 3]);
         match turn / 2 % 5 {
-            0 => Call::Follow { file, state, events: run },
-            1 => Call::Write { file, run, space: vec![7; 9] },
-            2 => Call::Check { file, record: vec![0; turn % 4] },
+            0 => Call::Follow {
+                file,
+                state,
+                events: run,
+            },
+            1 => Call::Write {
+                file,
+                run,
+                space: vec![7; 9],
+            },
+            2 => Call::Check {
+                file,
+                record: vec![0; turn % 4],
+            },
             3 => Call::Prompt { file, state },
             _ => Call::Judge { file },
         }
@@ -181,7 +176,11 @@ impl Maker {
         let random = &mut self.random;
         let shape = SHAPES[turn % SHAPES.len()];
         let tree = match theme {
-            T::JudgeRefused => return Call::Judge { file: damage::refused(random, turn as u32 % 6 + 1) },
+            T::JudgeRefused => {
+                return Call::Judge {
+                    file: damage::refused(random, turn as u32 % 6 + 1),
+                }
+            }
             T::JudgeSmall => (*grow::any(random).tree).clone(),
             T::JudgeAdmitted => (*grow::admitted(random).tree).clone(),
             T::JudgeConflicted => (*grow::conflicted(random, turn as u32 % 4 + 1).tree).clone(),
@@ -192,7 +191,9 @@ impl Maker {
                 Tree::from_postfix(grow(random, 31 + turn % 3)).expect("a tree")
             }
         };
-        Call::Judge { file: self.file(&tree) }
+        Call::Judge {
+            file: self.file(&tree),
+        }
     }
 
     fn follow_refused(&mut self, theme: Theme, turn: usize) -> Call {
@@ -200,12 +201,22 @@ impl Maker {
         let events = self.random.bytes(length);
         if theme == T::FollowRefused {
             let file = damage::refused(&mut self.random, turn as u32 % 7 + 1);
-            let state = self.random.pick(&[vec![0; 66], vec![0; 66], vec![0; 65], vec![9; 66], vec![]]);
-            return Call::Follow { file, state, events };
+            let state =
+                self.random
+                    .pick(&[vec![0; 66], vec![0; 66], vec![0; 65], vec![9; 66], vec![]]);
+            return Call::Follow {
+                file,
+                state,
+                events,
+            };
         }
         let procedure = self.procedure(theme, turn);
         let state = trail::wrong_state(&procedure.automaton, &mut self.random, turn);
-        Call::Follow { file: self.file(&procedure.tree), state, events }
+        Call::Follow {
+            file: self.file(&procedure.tree),
+            state,
+            events,
+        }
     }
 
     fn follow(&mut self, theme: Theme, turn: usize) -> Call {
@@ -218,23 +229,36 @@ impl Maker {
         let events = if breaks {
             trail.broken(automaton, &mut self.random, turn % trail.places.len())
         } else if self.random.percent(50) {
-            trail.complete(automaton).map_or(trail.codes, |(codes, _)| codes)
+            trail
+                .complete(automaton)
+                .map_or(trail.codes, |(codes, _)| codes)
         } else {
             trail.codes
         };
-        Call::Follow { file: self.file(&procedure.tree), state: place.write(), events }
+        Call::Follow {
+            file: self.file(&procedure.tree),
+            state: place.write(),
+            events,
+        }
     }
 
     /// Any admitted procedure, then an event of its own, without end.
     fn endless(&mut self) -> Procedure {
         loop {
             let inner = grow::nested(&mut self.random);
-            let used: Vec<u8> = inner.tree.events().filter_map(|node| inner.tree.code(node)).collect();
+            let used: Vec<u8> = inner
+                .tree
+                .events()
+                .filter_map(|node| inner.tree.code(node))
+                .collect();
             let own = (0..64).find(|code| !used.contains(code));
             let (Some(own), true) = (own, inner.tree.repeats().len() < 32) else {
                 continue;
             };
-            let endless = Symbol::Repeat(Bounds { lower: 0, upper: None });
+            let endless = Symbol::Repeat(Bounds {
+                lower: 0,
+                upper: None,
+            });
             let more = [Symbol::Event(own), Symbol::Sequence, endless];
             let tree = Tree::from_postfix([inner.tree.symbols(), &more].concat()).expect("a tree");
             return Procedure::new(tree);
@@ -246,81 +270,34 @@ impl Maker {
         let procedure = self.endless();
         let automaton = &procedure.automaton;
         let place = trail::place(automaton, &mut self.random);
-        let most = if turn % 4 == 0 { MOST_EVENTS + self.random.below(3) } else { self.random.within(400, 5_000) };
+        let most = if turn % 4 == 0 {
+            MOST_EVENTS + self.random.below(3)
+        } else {
+            self.random.within(400, 5_000)
+        };
         let trail = Trail::walk(automaton, &mut self.random, place.clone(), most, 0);
-        let at = self.random.pick(&[trail.places.len() - 1, trail.places.len() / 2]);
-        let events = if turn % 2 == 0 { trail.codes } else { trail.broken(automaton, &mut self.random, at) };
-        Call::Follow { file: self.file(&procedure.tree), state: place.write(), events }
-    }
-
-    fn write_refused(&mut self, turn: usize) -> Call {
-        let file = damage::refused(&mut self.random, turn as u32 % 7 + 1);
-        let (run, space) = (self.random.below(5), self.random.below(9));
-        Call::Write { file, run: self.random.bytes(run), space: self.random.bytes(space) }
-    }
-
-    fn write(&mut self, theme: Theme, turn: usize) -> Call {
-        let procedure = self.procedure(theme, turn);
-        let automaton = &procedure.automaton;
-        let most = self.random.pick(&[3, 8, 20, 31, 90, 400]);
-        let trail = Trail::to_an_end(automaton, &mut self.random, most);
-        let complete = trail.complete(automaton);
-        let (run, length) = match complete {
-            _ if theme == T::WriteBroken && turn % 2 == 0 => {
-                (trail.broken(automaton, &mut self.random, turn / 2 % trail.places.len()), trail.items.len())
-            }
-            Some((run, items)) if theme != T::WriteBroken => (run, items.len()),
-            _ => {
-                let cut = self.random.below(trail.codes.len() + 1);
-                (trail.codes[..cut].to_vec(), trail.items.len())
-            }
+        let at = self
+            .random
+            .pick(&[trail.places.len() - 1, trail.places.len() / 2]);
+        let events = if turn % 2 == 0 {
+            trail.codes
+        } else {
+            trail.broken(automaton, &mut self.random, at)
         };
-        let space = self.space(2 * length);
-        Call::Write { file: self.file(&procedure.tree), run, space }
-    }
-
-    /// Space for a record of so many bytes: just enough, too little or more.
-    fn space(&mut self, length: usize) -> Vec<u8> {
-        let short = self.random.pick(&[1, 1, 2, 2, 3, length / 2, length]);
-        let more = self.random.pick(&[1, 2, 3, 16]);
-        let count = match self.random.below(10) {
-            0..=2 => length.saturating_sub(short),
-            3..=6 => length,
-            _ => length + more,
-        };
-        self.random.bytes(count)
-    }
-
-    fn write_too_long(&mut self, turn: usize) -> Call {
-        let procedure = self.endless();
-        let most = MOST_EVENTS + 1 + turn % 2;
-        let trail = Trail::walk(&procedure.automaton, &mut self.random, Place::start(&procedure.tree), most, 0);
-        let space = self.random.bytes(turn % 5);
-        Call::Write { file: self.file(&procedure.tree), run: trail.codes, space }
-    }
-
-    /// A run of exactly as many events as a record may have, every fourth
-    /// time; else one of some thousands. The record fits or just does not.
-    fn write_longest(&mut self, turn: usize) -> Call {
-        let block = self.random.pick(&[16, 64, 128, 256]);
-        let mut symbols: Vec<Symbol> = vec![Symbol::Event(0)];
-        for place in 1..block {
-            symbols.extend([Symbol::Event(place as u8 % 64), Symbol::Sequence]);
+        Call::Follow {
+            file: self.file(&procedure.tree),
+            state: place.write(),
+            events,
         }
-        symbols.push(Symbol::Repeat(Bounds { lower: 0, upper: None }));
-        let procedure = Procedure::new(Tree::from_postfix(symbols).expect("a tree"));
-        let events = if turn % 4 == 0 { MOST_EVENTS } else { block * self.random.within(2, 2_000 / block) };
-        let run: Vec<u8> = (0..events).map(|place| (place % block % 64) as u8).collect();
-        let items = record_of(&procedure, &run).expect("whole blocks");
-        let short = if turn % 8 == 4 { 1 } else { 0 };
-        let space = self.random.bytes(2 * items.len() - short);
-        Call::Write { file: self.file(&procedure.tree), run, space }
     }
 
     fn check_refused(&mut self, turn: usize) -> Call {
         let file = damage::refused(&mut self.random, turn as u32 % 6 + 1);
         let length = self.random.below(9);
-        Call::Check { file, record: self.random.bytes(length) }
+        Call::Check {
+            file,
+            record: self.random.bytes(length),
+        }
     }
 
     fn check(&mut self, theme: Theme, turn: usize) -> Call {
@@ -333,29 +310,43 @@ impl Maker {
         };
         let most = self.random.pick(&[2, 6, 15, 31, 60, 300]);
         let trail = Trail::to_an_end(&procedure.automaton, &mut self.random, most);
-        let items = trail.complete(&procedure.automaton).map_or(trail.items, |(_, items)| items);
+        let items = trail
+            .complete(&procedure.automaton)
+            .map_or(trail.items, |(_, items)| items);
         let changed = theme == T::CheckChanged || self.random.percent(10);
         let record = if changed {
             trail::wrong_record(&procedure.automaton, &mut self.random, &items, turn)
         } else {
             record::write(&items)
         };
-        Call::Check { file: self.file(&procedure.tree), record }
+        Call::Check {
+            file: self.file(&procedure.tree),
+            record,
+        }
     }
 
     fn prompt_refused(&mut self, theme: Theme, turn: usize) -> Call {
         if theme == T::PromptRefused {
             let file = damage::refused(&mut self.random, turn as u32 % 7 + 1);
-            return Call::Prompt { file, state: self.random.pick(&[vec![0; 66], vec![0; 67], vec![1; 66]]) };
+            return Call::Prompt {
+                file,
+                state: self.random.pick(&[vec![0; 66], vec![0; 67], vec![1; 66]]),
+            };
         }
         let procedure = self.procedure(theme, turn);
         let state = trail::wrong_state(&procedure.automaton, &mut self.random, turn);
-        Call::Prompt { file: self.file(&procedure.tree), state }
+        Call::Prompt {
+            file: self.file(&procedure.tree),
+            state,
+        }
     }
 
     fn prompt(&mut self, theme: Theme, turn: usize) -> Call {
         let procedure = self.procedure(theme, turn);
         let place = trail::place(&procedure.automaton, &mut self.random);
-        Call::Prompt { file: self.file(&procedure.tree), state: place.write() }
+        Call::Prompt {
+            file: self.file(&procedure.tree),
+            state: place.write(),
+        }
     }
 }

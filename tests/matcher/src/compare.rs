@@ -13,9 +13,16 @@ pub struct Compared {
 }
 
 /// Compares line by line; a line that only one side has differs.
-pub fn compare(expected: impl BufRead, actual: impl BufRead, mut tell: impl FnMut(String)) -> Result<Compared> {
+pub fn compare(
+    expected: impl BufRead,
+    actual: impl BufRead,
+    mut tell: impl FnMut(String),
+) -> Result<Compared> {
     let (mut expected, mut actual) = (expected.split(b'\n'), actual.split(b'\n'));
-    let mut compared = Compared { lines: 0, differ: 0 };
+    let mut compared = Compared {
+        lines: 0,
+        differ: 0,
+    };
     loop {
         let (wanted, given) = (expected.next().transpose()?, actual.next().transpose()?);
         if wanted.is_none() && given.is_none() {
@@ -27,25 +34,41 @@ pub fn compare(expected: impl BufRead, actual: impl BufRead, mut tell: impl FnMu
         }
         compared.differ += 1;
         if compared.differ <= MOST_SHOWN {
-            tell(format!("case {}: {}", compared.lines, difference(wanted, given)));
+            tell(format!(
+                "case {}: {}",
+                compared.lines,
+                difference(wanted, given)
+            ));
         }
     }
 }
 
 fn difference(wanted: Option<Vec<u8>>, given: Option<Vec<u8>>) -> String {
     let (Some(wanted), Some(given)) = (&wanted, &given) else {
-        let side = if wanted.is_some() { "expected, but not given" } else { "given, but not expected" };
+        let side = if wanted.is_some() {
+            "expected, but not given"
+        } else {
+            "given, but not expected"
+        };
         return format!("a line is {side}");
     };
-    let (wanted, given) = (String::from_utf8_lossy(wanted), String::from_utf8_lossy(given));
-    let (wanted, given): (Vec<&str>, Vec<&str>) = (wanted.split(' ').collect(), given.split(' ').collect());
+    let (wanted, given) = (
+        String::from_utf8_lossy(wanted),
+        String::from_utf8_lossy(given),
+    );
+    let (wanted, given): (Vec<&str>, Vec<&str>) =
+        (wanted.split(' ').collect(), given.split(' ').collect());
     let names = field_names(wanted[0]);
     let differs = |place: &usize| wanted.get(*place) != given.get(*place);
     let places = (0..wanted.len().max(given.len())).filter(differs);
     let told: Vec<String> = places
         .map(|place| {
             let name = names.get(place).unwrap_or(&"a field too many");
-            field_difference(name, wanted.get(place).unwrap_or(&""), given.get(place).unwrap_or(&""))
+            field_difference(
+                name,
+                wanted.get(place).unwrap_or(&""),
+                given.get(place).unwrap_or(&""),
+            )
         })
         .collect();
     format!("{}: {}", wanted[0], told.join("; "))
@@ -57,9 +80,18 @@ fn field_difference(name: &str, wanted: &str, given: &str) -> String {
     if wanted.len() <= LONG && given.len() <= LONG {
         return format!("{name} is {given}, {wanted} was expected");
     }
-    let same = wanted.bytes().zip(given.bytes()).take_while(|(one, two)| one == two).count();
+    let same = wanted
+        .bytes()
+        .zip(given.bytes())
+        .take_while(|(one, two)| one == two)
+        .count();
     let piece = |text: &str| text.chars().skip(same / 2 * 2).take(8).collect::<String>();
-    format!("{name} differs from byte {} on: {}…, {}… was expected", same / 2, piece(given), piece(wanted))
+    format!(
+        "{name} differs from byte {} on: {}…, {}… was expected",
+        same / 2,
+        piece(given),
+        piece(wanted)
+    )
 }
 
 #[cfg(test)]
@@ -68,26 +100,59 @@ mod tests {
 
     fn told(expected: &str, actual: &str) -> (Compared, Vec<String>) {
         let mut lines = Vec::new();
-        let compared = compare(expected.as_bytes(), actual.as_bytes(), |line| lines.push(line)).unwrap();
+        let compared = compare(expected.as_bytes(), actual.as_bytes(), |line| {
+            lines.push(line)
+        })
+        .unwrap();
         (compared, lines)
     }
 
     #[test]
     fn equal_lines_do_not_differ() {
-        assert_eq!(told("J 0 0 0 0\nC 0 1\n", "J 0 0 0 0\nC 0 1\n").0, Compared { lines: 2, differ: 0 });
-        assert_eq!(told("", "").0, Compared { lines: 0, differ: 0 });
+        assert_eq!(
+            told("J 0 0 0 0\nC 0 1\n", "J 0 0 0 0\nC 0 1\n").0,
+            Compared {
+                lines: 2,
+                differ: 0
+            }
+        );
+        assert_eq!(
+            told("", "").0,
+            Compared {
+                lines: 0,
+                differ: 0
+            }
+        );
     }
 
     #[test]
     fn differences_are_told_by_field() {
         let (compared, lines) = told("F 0 3 1 00\n", "F 0 3 2 00\n");
-        assert_eq!(compared, Compared { lines: 1, differ: 1 });
+        assert_eq!(
+            compared,
+            Compared {
+                lines: 1,
+                differ: 1
+            }
+        );
         assert_eq!(lines, ["case 1: F: verdict is 2, 1 was expected"]);
     }
 
     #[test]
     fn a_missing_or_further_line_differs() {
-        assert_eq!(told("C 0 1\nC 0 0\n", "C 0 1\n").0, Compared { lines: 2, differ: 1 });
-        assert_eq!(told("C 0 1\n", "C 0 1\nC 0 0\n").0, Compared { lines: 2, differ: 1 });
+        assert_eq!(
+            told("C 0 1\nC 0 0\n", "C 0 1\n").0,
+            Compared {
+                lines: 2,
+                differ: 1
+            }
+        );
+        assert_eq!(
+            told("C 0 1\n", "C 0 1\nC 0 0\n").0,
+            Compared {
+                lines: 2,
+                differ: 1
+            }
+        );
     }
 }

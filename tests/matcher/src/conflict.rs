@@ -31,7 +31,10 @@ impl Sets for Automaton {
         let mut after = 0;
         for &event in &self.last[part] {
             let ends = self.acceptance(event, part);
-            let inside = self.moves_from(Some(event)).iter().filter(|step| self.tree.holds(part, step.by));
+            let inside = self
+                .moves_from(Some(event))
+                .iter()
+                .filter(|step| self.tree.holds(part, step.by));
             for step in inside {
                 let code = codes(self, &[step.to]);
                 if after & code == 0 && self.guard(Some(event), step).meets(&ends) {
@@ -55,7 +58,10 @@ impl Sets for crate::words::Words<'_> {
 
 fn codes(automaton: &Automaton, events: &[Node]) -> u64 {
     let code = |&node: &Node| automaton.tree.code(node).expect("an event");
-    events.iter().map(code).fold(0, |codes, code| codes | 1 << code)
+    events
+        .iter()
+        .map(code)
+        .fold(0, |codes, code| codes | 1 << code)
 }
 
 /// The lowest conflict, its kind the lowest there, its code the lowest shared.
@@ -63,7 +69,10 @@ pub fn lowest(tree: &crate::tree::Tree, sets: &dyn Sets) -> Option<Conflict> {
     (0..tree.len()).find_map(|node| {
         let (kind, shared) = match tree.symbol(node) {
             Symbol::Empty | Symbol::Event(_) => return None,
-            Symbol::Choice => (1, sets.first(tree.left(node)) & sets.first(tree.right(node))),
+            Symbol::Choice => (
+                1,
+                sets.first(tree.left(node)) & sets.first(tree.right(node)),
+            ),
             Symbol::Sequence => at_sequence(tree, node, sets),
             Symbol::Repeat(bounds) if bounds.upper == Some(1) => return None,
             Symbol::Repeat(_) => (4, sets.after(tree.body(node)) & sets.first(tree.body(node))),
@@ -76,7 +85,11 @@ pub fn lowest(tree: &crate::tree::Tree, sets: &dyn Sets) -> Option<Conflict> {
 fn at_sequence(tree: &crate::tree::Tree, node: Node, sets: &dyn Sets) -> (u32, u64) {
     let (left, right) = (tree.left(node), tree.right(node));
     let onto = sets.first(right);
-    let skipped = if tree.nullable(left) { sets.first(left) & onto } else { 0 };
+    let skipped = if tree.nullable(left) {
+        sets.first(left) & onto
+    } else {
+        0
+    };
     if skipped != 0 {
         (2, skipped)
     } else {
@@ -113,7 +126,16 @@ mod tests {
 
     #[test]
     fn bench_cases_without() {
-        for text in ["a{2,4}", "(a{0,1}){0,3}", "a{2,2}a", "(e b{0,1}){0,2}", "(a+e){3,3}", "(ab){1,2}", "e", "(a{2,2}){0,}"] {
+        for text in [
+            "a{2,4}",
+            "(a{0,1}){0,3}",
+            "a{2,2}a",
+            "(e b{0,1}){0,2}",
+            "(a+e){3,3}",
+            "(ab){1,2}",
+            "e",
+            "(a{2,2}){0,}",
+        ] {
             assert_eq!(named(text), None, "{text}");
         }
     }
@@ -137,6 +159,9 @@ mod tests {
         assert_eq!(named("(a{1,2}){1,2}"), Some((2, 4, 0)));
         assert_eq!(named("(a+b){6,7}ab(a+b)"), Some((5, 3, 0)));
         assert_eq!(named("(t(x+e)){0,}l"), None);
-        assert_eq!(named("((t(t+e))(e+(abc))){2,3}").map(|told| told.1), Some(4));
+        assert_eq!(
+            named("((t(t+e))(e+(abc))){2,3}").map(|told| told.1),
+            Some(4)
+        );
     }
 }

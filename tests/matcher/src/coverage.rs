@@ -42,7 +42,9 @@ impl Coverage {
                 }
                 0
             }
-            Outcome::Follow { answer, verdict, .. } => {
+            Outcome::Follow {
+                answer, verdict, ..
+            } => {
                 self.verdicts[verdict as usize] += usize::from(answer == 0);
                 1
             }
@@ -78,7 +80,9 @@ impl Coverage {
         }
         let named = |names: &[&str], call: &str, numbers: &[usize]| {
             let pairs = names.iter().zip(numbers);
-            pairs.map(|(name, number)| (format!("{call} {name}"), *number)).collect::<Vec<_>>()
+            pairs
+                .map(|(name, number)| (format!("{call} {name}"), *number))
+                .collect::<Vec<_>>()
         };
         counts.extend(named(&VERDICTS, "Follow", &self.verdicts));
         counts.extend(named(&["no", "yes"], "Check", &self.checks));
@@ -90,12 +94,24 @@ impl Coverage {
     pub fn table(&self) -> String {
         let mut text = String::new();
         for ((call, answers), row) in ANSWERS.iter().zip(&self.answers) {
-            let cells: Vec<String> = answers.iter().map(|&answer| format!("{answer}: {}", row[answer as usize])).collect();
+            let cells: Vec<String> = answers
+                .iter()
+                .map(|&answer| format!("{answer}: {}", row[answer as usize]))
+                .collect();
             text += &format!("{call:<7} {}\n", cells.join(", "));
         }
-        text += &format!("verdicts  complete: {}, unfinished: {}, broken: {}\n", self.verdicts[0], self.verdicts[1], self.verdicts[2]);
-        text += &format!("checks    yes: {}, no: {}\n", self.checks[1], self.checks[0]);
-        text += &format!("conflicts kind 1: {}, 2: {}, 3: {}, 4: {}\n", self.kinds[0], self.kinds[1], self.kinds[2], self.kinds[3]);
+        text += &format!(
+            "verdicts  complete: {}, unfinished: {}, broken: {}\n",
+            self.verdicts[0], self.verdicts[1], self.verdicts[2]
+        );
+        text += &format!(
+            "checks    yes: {}, no: {}\n",
+            self.checks[1], self.checks[0]
+        );
+        text += &format!(
+            "conflicts kind 1: {}, 2: {}, 3: {}, 4: {}\n",
+            self.kinds[0], self.kinds[1], self.kinds[2], self.kinds[3]
+        );
         for (call, (all, nested)) in ["Follow", "Write"].iter().zip(self.nested) {
             text += &format!("{call} on admitted files with nested repeats: {nested} of {all}\n");
         }
@@ -105,11 +121,18 @@ impl Coverage {
     /// What the set covers too little, in words.
     pub fn gaps(&self) -> Vec<String> {
         let least = if self.cases >= LARGE_SET { OFTEN } else { 1 };
-        let low = self.counts().into_iter().filter(|(_, count)| *count < least);
-        let mut gaps: Vec<String> = low.map(|(name, count)| format!("{name}: {count} of at least {least}")).collect();
+        let low = self
+            .counts()
+            .into_iter()
+            .filter(|(_, count)| *count < least);
+        let mut gaps: Vec<String> = low
+            .map(|(name, count)| format!("{name}: {count} of at least {least}"))
+            .collect();
         for (call, (all, nested)) in ["Follow", "Write"].iter().zip(self.nested) {
             if 3 * nested < all {
-                gaps.push(format!("{call}: under a third on admitted files with nested repeats"));
+                gaps.push(format!(
+                    "{call}: under a third on admitted files with nested repeats"
+                ));
             }
         }
         gaps

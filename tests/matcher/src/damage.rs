@@ -8,7 +8,11 @@ use crate::tree::{Bounds, Node, Symbol, Tree};
 
 /// A text for a file, mostly short.
 fn text(random: &mut Random) -> Vec<u8> {
-    let length = if random.percent(3) { MOST_TEXT } else { random.pick(&[0, 0, 0, 1, 7, 30]) };
+    let length = if random.percent(3) {
+        MOST_TEXT
+    } else {
+        random.pick(&[0, 0, 0, 1, 7, 30])
+    };
     random.bytes(length)
 }
 
@@ -118,7 +122,11 @@ fn with_wrong_count(random: &mut Random) -> Vec<u8> {
             let mut symbols = leaves[..MOST_NODES / 2 + 1].to_vec();
             symbols.extend(vec![Symbol::Sequence; MOST_NODES / 2]);
             let bytes = file::write(&[], &symbols);
-            if random.percent(30) { bytes } else { claiming(random, bytes) }
+            if random.percent(30) {
+                bytes
+            } else {
+                claiming(random, bytes)
+            }
         }
         _ => {
             let procedure = grow::any(random);
@@ -174,7 +182,16 @@ fn break_record(random: &mut Random, record: &mut [u8], symbol: Symbol) {
         }
         Symbol::Repeat(_) if random.percent(15) => record[1] = random.pick(&[1, 63, 64]),
         Symbol::Repeat(_) => {
-            let wrong = [(0, 0), (4_097, 4_097), (4_097, 65_535), (65_535, 65_535), (0, 4_097), (1, 65_534), (2, 1), (4_096, 4_095)];
+            let wrong = [
+                (0, 0),
+                (4_097, 4_097),
+                (4_097, 65_535),
+                (65_535, 65_535),
+                (0, 4_097),
+                (1, 65_534),
+                (2, 1),
+                (4_096, 4_095),
+            ];
             let (lower, upper) = random.pick(&wrong);
             put(record, 4, lower);
             put(record, 6, upper);
@@ -198,7 +215,14 @@ fn out_of_order(random: &mut Random) -> Vec<u8> {
     };
     let field = place + random.pick(&fields);
     let told = u16::from_le_bytes([bytes[field], bytes[field + 1]]);
-    let wrong = random.pick(&[told.wrapping_add(1), told.wrapping_sub(1), 0, node as u16, 511, 65_535]);
+    let wrong = random.pick(&[
+        told.wrapping_add(1),
+        told.wrapping_sub(1),
+        0,
+        node as u16,
+        511,
+        65_535,
+    ]);
     put(&mut bytes, field, wrong);
     bytes
 }
@@ -209,7 +233,17 @@ fn with_missing_parts(random: &mut Random, tree: &Tree) -> Vec<u8> {
     let place = random.below(symbols.len());
     match random.below(3) {
         0 => symbols.insert(place, Symbol::Event(1)),
-        1 => symbols.insert(0, random.pick(&[Symbol::Choice, Symbol::Sequence, Symbol::Repeat(Bounds { lower: 0, upper: None })])),
+        1 => symbols.insert(
+            0,
+            random.pick(&[
+                Symbol::Choice,
+                Symbol::Sequence,
+                Symbol::Repeat(Bounds {
+                    lower: 0,
+                    upper: None,
+                }),
+            ]),
+        ),
         _ if symbols.len() > 1 => {
             symbols.remove(place);
         }
@@ -220,6 +254,10 @@ fn with_missing_parts(random: &mut Random, tree: &Tree) -> Vec<u8> {
 
 fn with_too_many_repeats(random: &mut Random) -> Vec<u8> {
     let repeats = random.pick(&[33, 33, 33, 34, 40]);
-    let symbols = if random.percent(50) { grow::nest(random, repeats) } else { grow::row(random, repeats) };
+    let symbols = if random.percent(50) {
+        grow::nest(random, repeats)
+    } else {
+        grow::row(random, repeats)
+    };
     file::write(&[], &symbols)
 }

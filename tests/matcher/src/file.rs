@@ -27,7 +27,10 @@ fn refuse<T>(answer: u32, node: Node) -> Result<T, Refusal> {
 
 /// The little-endian number in the given bytes.
 fn number(bytes: &[u8]) -> u64 {
-    bytes.iter().rev().fold(0, |sum, &byte| sum * 256 + u64::from(byte))
+    bytes
+        .iter()
+        .rev()
+        .fold(0, |sum, &byte| sum * 256 + u64::from(byte))
 }
 
 /// The tree of a file, or the lowest of the answers 1 to 6 that applies.
@@ -51,7 +54,9 @@ pub fn read(file: &[u8]) -> Result<Tree, Refusal> {
     let records: Vec<&[u8]> = file[first..first + RECORD * count].chunks(RECORD).collect();
     let symbols = read_records(&records)?;
     read_order(&records, &symbols)?;
-    let repeats: Vec<Node> = (0..count).filter(|&i| matches!(symbols[i], Symbol::Repeat(_))).collect();
+    let repeats: Vec<Node> = (0..count)
+        .filter(|&i| matches!(symbols[i], Symbol::Repeat(_)))
+        .collect();
     if let Some(&node) = repeats.get(MOST_REPEATS) {
         return refuse(6, node);
     }
@@ -59,9 +64,8 @@ pub fn read(file: &[u8]) -> Result<Tree, Refusal> {
 }
 
 fn read_records(records: &[&[u8]]) -> Result<Vec<Symbol>, Refusal> {
-    let read_one = |(node, record): (Node, &&[u8])| {
-        read_record(record).ok_or(Refusal { answer: 4, node })
-    };
+    let read_one =
+        |(node, record): (Node, &&[u8])| read_record(record).ok_or(Refusal { answer: 4, node });
     records.iter().enumerate().map(read_one).collect()
 }
 
@@ -89,7 +93,10 @@ fn read_bounds(lower: u32, upper: u32) -> Option<Bounds> {
         return Some(Bounds { lower, upper: None });
     }
     let fits = (1..=MOST_BOUND).contains(&upper) && lower <= upper;
-    fits.then_some(Bounds { lower, upper: Some(upper) })
+    fits.then_some(Bounds {
+        lower,
+        upper: Some(upper),
+    })
 }
 
 /// Tests child numbers by a pile of the parts that no node has taken yet.
@@ -132,7 +139,11 @@ pub fn write(text: &[u8], symbols: &[Symbol]) -> Vec<u8> {
             Symbol::Choice | Symbol::Sequence => {
                 let right = child();
                 let left = child();
-                (if *symbol == Symbol::Choice { 2 } else { 3 }, 0, [left, right, 0])
+                (
+                    if *symbol == Symbol::Choice { 2 } else { 3 },
+                    0,
+                    [left, right, 0],
+                )
             }
             Symbol::Repeat(bounds) => {
                 let upper = bounds.upper.unwrap_or(NO_BOUND) as u16;
@@ -141,7 +152,9 @@ pub fn write(text: &[u8], symbols: &[Symbol]) -> Vec<u8> {
         };
         pile.push(node as u16);
         file.extend([kind, code]);
-        fields.iter().for_each(|field: &u16| file.extend(field.to_le_bytes()));
+        fields
+            .iter()
+            .for_each(|field: &u16| file.extend(field.to_le_bytes()));
     }
     write_trailer(&mut file, symbols.len());
     file
@@ -160,10 +173,15 @@ mod tests {
     use crate::tree::{Bounds, Symbol};
 
     const A: Symbol = Symbol::Event(0);
-    const ANY: Symbol = Symbol::Repeat(Bounds { lower: 0, upper: None });
+    const ANY: Symbol = Symbol::Repeat(Bounds {
+        lower: 0,
+        upper: None,
+    });
 
     fn refusal(file: &[u8]) -> Option<(u32, usize)> {
-        read(file).err().map(|Refusal { answer, node }| (answer, node))
+        read(file)
+            .err()
+            .map(|Refusal { answer, node }| (answer, node))
     }
 
     /// The file with a byte of a node's record changed.
@@ -175,30 +193,60 @@ mod tests {
 
     #[test]
     fn a_file_is_read_as_it_is_written() {
-        let symbols = [A, ANY, Symbol::Empty, Symbol::Choice, Symbol::Event(63), Symbol::Sequence];
+        let symbols = [
+            A,
+            ANY,
+            Symbol::Empty,
+            Symbol::Choice,
+            Symbol::Event(63),
+            Symbol::Sequence,
+        ];
         let file = write(b"text", &symbols);
         assert_eq!(file.len(), 4 + 8 * 6 + 12);
         assert_eq!(read(&file).unwrap().symbols(), symbols);
         let repeat = [4, 0, 0, 0, 0, 0, 255, 255];
         assert_eq!(file[12..20], repeat);
         assert_eq!(file[28..36], [2, 0, 1, 0, 2, 0, 0, 0]);
-        assert_eq!(file[52..], [b'S', b'E', b'Q', b'P', 6, 0, 1, 0, 60, 0, 0, 0]);
+        assert_eq!(
+            file[52..],
+            [b'S', b'E', b'Q', b'P', 6, 0, 1, 0, 60, 0, 0, 0]
+        );
     }
 
     #[test]
     fn every_byte_of_a_record_is_judged() {
         let symbols = [A, Symbol::Empty, Symbol::Choice, ANY];
         for (node, byte, to, told) in [
-            (0, 0, 5, Some((4, 0))), (0, 1, 63, None), (0, 1, 64, Some((4, 0))),
-            (0, 2, 1, Some((4, 0))), (0, 5, 1, Some((4, 0))), (0, 7, 1, Some((4, 0))),
-            (1, 1, 1, Some((4, 1))), (1, 3, 1, Some((4, 1))), (1, 6, 1, Some((4, 1))),
-            (2, 1, 1, Some((4, 2))), (2, 6, 1, Some((4, 2))), (2, 7, 1, Some((4, 2))),
-            (2, 2, 1, Some((5, 2))), (2, 3, 1, Some((5, 2))), (2, 4, 0, Some((5, 2))), (2, 5, 1, Some((5, 2))),
-            (3, 1, 1, Some((4, 3))), (3, 2, 1, Some((5, 3))), (3, 3, 1, Some((5, 3))),
-            (3, 4, 255, None), (3, 5, 16, None), (3, 5, 17, Some((4, 3))),
-            (3, 6, 254, Some((4, 3))), (3, 7, 254, Some((4, 3))),
+            (0, 0, 5, Some((4, 0))),
+            (0, 1, 63, None),
+            (0, 1, 64, Some((4, 0))),
+            (0, 2, 1, Some((4, 0))),
+            (0, 5, 1, Some((4, 0))),
+            (0, 7, 1, Some((4, 0))),
+            (1, 1, 1, Some((4, 1))),
+            (1, 3, 1, Some((4, 1))),
+            (1, 6, 1, Some((4, 1))),
+            (2, 1, 1, Some((4, 2))),
+            (2, 6, 1, Some((4, 2))),
+            (2, 7, 1, Some((4, 2))),
+            (2, 2, 1, Some((5, 2))),
+            (2, 3, 1, Some((5, 2))),
+            (2, 4, 0, Some((5, 2))),
+            (2, 5, 1, Some((5, 2))),
+            (3, 1, 1, Some((4, 3))),
+            (3, 2, 1, Some((5, 3))),
+            (3, 3, 1, Some((5, 3))),
+            (3, 4, 255, None),
+            (3, 5, 16, None),
+            (3, 5, 17, Some((4, 3))),
+            (3, 6, 254, Some((4, 3))),
+            (3, 7, 254, Some((4, 3))),
         ] {
-            assert_eq!(refusal(&changed(&symbols, node, byte, to)), told, "node {node} byte {byte} to {to}");
+            assert_eq!(
+                refusal(&changed(&symbols, node, byte, to)),
+                told,
+                "node {node} byte {byte} to {to}"
+            );
         }
     }
 
@@ -241,7 +289,20 @@ mod tests {
 
     #[test]
     fn every_byte_of_the_trailer_is_judged() {
-        for (byte, answer) in [(0, 2), (1, 2), (2, 2), (3, 2), (4, 3), (5, 3), (6, 2), (7, 2), (8, 3), (9, 3), (10, 3), (11, 3)] {
+        for (byte, answer) in [
+            (0, 2),
+            (1, 2),
+            (2, 2),
+            (3, 2),
+            (4, 3),
+            (5, 3),
+            (6, 2),
+            (7, 2),
+            (8, 3),
+            (9, 3),
+            (10, 3),
+            (11, 3),
+        ] {
             let mut file = write(&[], &[A]);
             file[8 + byte] ^= 2;
             assert_eq!(refusal(&file), Some((answer, 0)), "byte {byte}");

@@ -13,7 +13,12 @@ pub enum Shape {
     Balanced,
 }
 
-pub const SHAPES: [Shape; 4] = [Shape::Any, Shape::LeftSided, Shape::RightSided, Shape::Balanced];
+pub const SHAPES: [Shape; 4] = [
+    Shape::Any,
+    Shape::LeftSided,
+    Shape::RightSided,
+    Shape::Balanced,
+];
 
 /// Which bounds repeats get.
 #[derive(Clone, Copy, Debug)]
@@ -54,7 +59,13 @@ impl Plan {
             wraps[random.below(parts)] += 1;
         }
         let next_code = random.below(64);
-        let mut grower = Grower { plan: self, random, wraps, next_code, symbols: Vec::new() };
+        let mut grower = Grower {
+            plan: self,
+            random,
+            wraps,
+            next_code,
+            symbols: Vec::new(),
+        };
         grower.part(self.leaves);
         grower.symbols
     }
@@ -84,7 +95,11 @@ impl Grower<'_, '_> {
             self.part(left);
             self.part(leaves - left);
             let choice = self.random.percent(self.plan.choices);
-            self.symbols.push(if choice { Symbol::Choice } else { Symbol::Sequence });
+            self.symbols.push(if choice {
+                Symbol::Choice
+            } else {
+                Symbol::Sequence
+            });
         }
         for _ in 0..self.wraps.pop().expect("a number for each part") {
             let bounds = bounds(self.random, self.plan.reach);
@@ -97,7 +112,11 @@ impl Grower<'_, '_> {
             return Symbol::Empty;
         }
         self.next_code += 1;
-        let number = if self.plan.rising { self.next_code } else { self.random.below(self.plan.codes) };
+        let number = if self.plan.rising {
+            self.next_code
+        } else {
+            self.random.below(self.plan.codes)
+        };
         Symbol::Event((number % self.plan.codes) as u8)
     }
 }
@@ -106,11 +125,17 @@ fn bounds(random: &mut Random, reach: Reach) -> Bounds {
     let small = |random: &mut Random| {
         let upper = random.within(1, 3) as u32;
         let lower = random.within(0, upper as usize) as u32;
-        Bounds { lower, upper: (!random.percent(25)).then_some(upper) }
+        Bounds {
+            lower,
+            upper: (!random.percent(25)).then_some(upper),
+        }
     };
     let exact = |random: &mut Random, most: usize| {
         let count = random.within(1, most) as u32;
-        Bounds { lower: count, upper: Some(count) }
+        Bounds {
+            lower: count,
+            upper: Some(count),
+        }
     };
     match reach {
         Reach::Small => small(random),
@@ -120,7 +145,10 @@ fn bounds(random: &mut Random, reach: Reach) -> Bounds {
             let upper = random.pick(&[Some(4_096), Some(4_095), Some(256), Some(2), None]);
             let most = upper.unwrap_or(4_096);
             let lower = random.pick(&[0, 1, 2, 3, most / 2, most - 1, most]);
-            Bounds { lower: lower.min(most), upper }
+            Bounds {
+                lower: lower.min(most),
+                upper,
+            }
         }
     }
 }
@@ -135,7 +163,7 @@ fn small_plan(random: &mut Random) -> Plan {
         codes: random.pick(&[1, 2, 3, 5, 64]),
         rising: random.percent(50),
         choices: random.pick(&[20, 50, 80]),
-        empties: random.pick(&[0, 10, 25]),
+        empties: random.pick(&[0, 10, 25, 40]),
     }
 }
 
@@ -181,7 +209,16 @@ pub fn largest(random: &mut Random, shape: Shape) -> Tree {
     let repeats = 2 * random.below(16) + 1;
     let leaves = (513 - repeats) / 2;
     let choices = random.pick(&[0, 1]);
-    let plan = Plan { leaves, repeats, shape, reach: Reach::Exact, codes: 64, rising: true, choices, empties: 0 };
+    let plan = Plan {
+        leaves,
+        repeats,
+        shape,
+        reach: Reach::Exact,
+        codes: 64,
+        rising: true,
+        choices,
+        empties: 0,
+    };
     assert_eq!(plan.nodes(), 512);
     made(plan.grow(random))
 }
@@ -205,7 +242,10 @@ pub fn row(random: &mut Random, repeats: usize) -> Vec<Symbol> {
     let reach = random.pick(&[Reach::Small, Reach::Exact, Reach::Wide]);
     let mut symbols = Vec::new();
     for place in 0..repeats {
-        symbols.extend([Symbol::Event(place as u8 % 64), Symbol::Repeat(bounds(random, reach))]);
+        symbols.extend([
+            Symbol::Event(place as u8 % 64),
+            Symbol::Repeat(bounds(random, reach)),
+        ]);
         if place > 0 {
             symbols.push(Symbol::Sequence);
         }
@@ -218,7 +258,11 @@ fn made(symbols: Vec<Symbol>) -> Tree {
 }
 
 /// The first tree that is within the limits of a file and passes the test.
-fn wanted(random: &mut Random, grow: fn(&mut Random) -> Tree, test: fn(&Procedure) -> bool) -> Procedure {
+fn wanted(
+    random: &mut Random,
+    grow: fn(&mut Random) -> Tree,
+    test: fn(&Procedure) -> bool,
+) -> Procedure {
     loop {
         let tree = grow(random);
         if tree.repeats().len() > 32 {
@@ -243,16 +287,36 @@ pub fn nested(random: &mut Random) -> Procedure {
         let repeats = random.within(2, 32);
         made(nest(random, repeats))
     };
-    let grow = random.pick(&[small as fn(&mut Random) -> Tree, small, middle, middle, deep]);
-    wanted(random, grow, |procedure| procedure.conflict.is_none() && procedure.tree.has_nested_repeats())
+    let grow = random.pick(&[
+        small as fn(&mut Random) -> Tree,
+        small,
+        middle,
+        middle,
+        deep,
+    ]);
+    wanted(random, grow, |procedure| {
+        procedure.conflict.is_none() && procedure.tree.has_nested_repeats()
+    })
 }
 
 /// A small or middling procedure whose conflict has the given kind.
 pub fn conflicted(random: &mut Random, kind: u32) -> Procedure {
-    let grow = random.pick(&[small as fn(&mut Random) -> Tree, small, joined, joined, middle]);
     loop {
-        let procedure = wanted(random, grow, |procedure| procedure.conflict.is_some());
-        if procedure.conflict.is_some_and(|conflict| conflict.kind == kind) {
+        // Drawn anew each time: a tree of many codes has hardly any conflict
+        // but those of repeats.
+        let grow = random.pick(&[
+            small as fn(&mut Random) -> Tree,
+            small,
+            joined,
+            joined,
+            middle,
+        ]);
+        let tree = grow(random);
+        let procedure = Procedure::new(tree);
+        if procedure
+            .conflict
+            .is_some_and(|conflict| conflict.kind == kind)
+        {
             return procedure;
         }
     }
@@ -261,7 +325,15 @@ pub fn conflicted(random: &mut Random, kind: u32) -> Procedure {
 /// A small tree with more sequences than choices, over few codes.
 fn joined(random: &mut Random) -> Tree {
     let plan = small_plan(random);
-    made(Plan { leaves: random.within(2, 7), codes: random.within(2, 6), choices: 10, ..plan }.grow(random))
+    made(
+        Plan {
+            leaves: random.within(2, 7),
+            codes: random.within(2, 6),
+            choices: 10,
+            ..plan
+        }
+        .grow(random),
+    )
 }
 
 /// A small procedure, with or without conflict.
@@ -272,7 +344,11 @@ pub fn any(random: &mut Random) -> Procedure {
 /// A large procedure without conflict.
 pub fn large_admitted(random: &mut Random, shape: Shape) -> Procedure {
     loop {
-        let tree = if random.percent(50) { largest(random, shape) } else { large(random, shape) };
+        let tree = if random.percent(50) {
+            largest(random, shape)
+        } else {
+            large(random, shape)
+        };
         let procedure = Procedure::new(tree);
         if procedure.conflict.is_none() {
             return procedure;

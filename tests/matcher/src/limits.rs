@@ -53,7 +53,10 @@ fn chain(nodes: usize) -> Vec<Symbol> {
         symbols.extend([Symbol::Event(place as u8 % 64), Symbol::Sequence]);
     }
     if nodes % 2 == 0 {
-        symbols.push(Symbol::Repeat(Bounds { lower: 0, upper: None }));
+        symbols.push(Symbol::Repeat(Bounds {
+            lower: 0,
+            upper: None,
+        }));
     }
     symbols
 }
@@ -61,7 +64,13 @@ fn chain(nodes: usize) -> Vec<Symbol> {
 fn repeats(count: usize) -> Vec<Symbol> {
     let mut symbols = Vec::new();
     for place in 0..count {
-        symbols.extend([Symbol::Event(place as u8), Symbol::Repeat(Bounds { lower: 1, upper: Some(2) })]);
+        symbols.extend([
+            Symbol::Event(place as u8),
+            Symbol::Repeat(Bounds {
+                lower: 1,
+                upper: Some(2),
+            }),
+        ]);
         if place > 0 {
             symbols.push(Symbol::Sequence);
         }
@@ -120,7 +129,16 @@ const BOUNDS: [(u32, u32); FILES - 27] = [
 
 fn bounds_file(which: usize) -> Vec<u8> {
     let (lower, upper) = BOUNDS[which];
-    file::write(&[], &[Symbol::Event(0), Symbol::Repeat(Bounds { lower, upper: Some(upper) })])
+    file::write(
+        &[],
+        &[
+            Symbol::Event(0),
+            Symbol::Repeat(Bounds {
+                lower,
+                upper: Some(upper),
+            }),
+        ],
+    )
 }
 
 #[cfg(test)]
@@ -143,7 +161,12 @@ mod tests {
 
     #[test]
     fn the_33rd_repeat_is_told() {
-        let refused = Outcome::Judge { answer: 6, node: 96, kind: 0, code: 0 };
+        let refused = Outcome::Judge {
+            answer: 6,
+            node: 96,
+            kind: 0,
+            code: 0,
+        };
         assert_eq!(judge(&file(26)), refused);
     }
 }

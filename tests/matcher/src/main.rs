@@ -10,12 +10,13 @@ mod compare;
 mod conflict;
 mod coverage;
 mod damage;
+mod explored;
 mod file;
 mod grow;
+mod guard;
 mod horizon;
 mod limits;
 mod notation;
-#[cfg(test)]
 mod parse;
 mod prompt;
 mod random;
@@ -23,6 +24,7 @@ mod readings;
 mod record;
 mod state;
 mod stream;
+mod themes;
 mod trail;
 mod tree;
 mod words;
@@ -57,7 +59,9 @@ fn main() -> ExitCode {
 /// Writes a stream of calls and the lines that they must give.
 fn make(seed: &str, cases: &str, stream: &str, expected: &str) -> Result<(), String> {
     let seed: u64 = seed.parse().map_err(|_| format!("{seed} is no seed"))?;
-    let cases: usize = cases.parse().map_err(|_| format!("{cases} is no number of cases"))?;
+    let cases: usize = cases
+        .parse()
+        .map_err(|_| format!("{cases} is no number of cases"))?;
     let mut maker = cases::Maker::new(seed);
     let mut coverage = coverage::Coverage::default();
     let (mut calls, mut lines) = (create(stream)?, create(expected)?);
@@ -67,7 +71,9 @@ fn make(seed: &str, cases: &str, stream: &str, expected: &str) -> Result<(), Str
         let outcome = calls::answer(&call);
         coverage.add(&call, &outcome);
         calls.write_all(&stream::bytes(&call)).map_err(failed)?;
-        lines.write_all(stream::line(&outcome).as_bytes()).map_err(failed)?;
+        lines
+            .write_all(stream::line(&outcome).as_bytes())
+            .map_err(failed)?;
     }
     calls.flush().and_then(|()| lines.flush()).map_err(failed)?;
     println!("seed {seed}, {cases} cases, readings listed up to {HORIZON} events");
@@ -81,11 +87,15 @@ fn make(seed: &str, cases: &str, stream: &str, expected: &str) -> Result<(), Str
 }
 
 fn create(path: &str) -> Result<BufWriter<File>, String> {
-    File::create(path).map(BufWriter::new).map_err(|error| format!("{path}: {error}"))
+    File::create(path)
+        .map(BufWriter::new)
+        .map_err(|error| format!("{path}: {error}"))
 }
 
 fn open(path: &str) -> Result<BufReader<File>, String> {
-    File::open(path).map(BufReader::new).map_err(|error| format!("{path}: {error}"))
+    File::open(path)
+        .map(BufReader::new)
+        .map_err(|error| format!("{path}: {error}"))
 }
 
 /// Compares the lines expected with those that were given.
@@ -108,7 +118,10 @@ fn horizon() -> Result<(), String> {
         "{} trees of up to four nodes, {} strongly deterministic; readings listed up to {HORIZON} events",
         findings.trees, findings.strong
     );
-    println!("{least} events are needed; with ten {} trees would be misjudged", findings.misjudged_with(10));
+    println!(
+        "{least} events are needed; with ten {} trees would be misjudged",
+        findings.misjudged_with(10)
+    );
     if least > HORIZON {
         return Err(format!("{HORIZON} events are too few"));
     }

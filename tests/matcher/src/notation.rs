@@ -23,7 +23,9 @@ fn show_part(tree: &Tree, part: Node) -> String {
             format!("({}({}))", show_part(tree, left), show_part(tree, right))
         }
         Symbol::Repeat(bounds) => {
-            let upper = bounds.upper.map_or(String::new(), |upper| upper.to_string());
+            let upper = bounds
+                .upper
+                .map_or(String::new(), |upper| upper.to_string());
             let body = show_part(tree, tree.body(part));
             format!("{body}{{{},{upper}}}", bounds.lower)
         }

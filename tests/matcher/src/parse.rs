@@ -1,6 +1,5 @@
-//! The mirror of the notation: trees of text, for tests.
+//! The mirror of the notation: trees of text.
 
-use crate::notation::show;
 use crate::tree::{Bounds, Symbol, Tree};
 
 /// The tree of a notation.
@@ -8,8 +7,15 @@ use crate::tree::{Bounds, Symbol, Tree};
 /// # Panics
 /// Where the text is not in the notation.
 pub fn tree(text: &str) -> Tree {
-    let letters: Vec<char> = text.chars().filter(|letter| !letter.is_whitespace()).collect();
-    let mut parser = Parser { letters, at: 0, symbols: Vec::new() };
+    let letters: Vec<char> = text
+        .chars()
+        .filter(|letter| !letter.is_whitespace())
+        .collect();
+    let mut parser = Parser {
+        letters,
+        at: 0,
+        symbols: Vec::new(),
+    };
     parser.choice();
     assert_eq!(parser.at, parser.letters.len(), "text left over in {text}");
     Tree::from_postfix(parser.symbols).expect("a parser lists a tree")
@@ -42,7 +48,10 @@ impl Parser {
 
     fn sequence(&mut self) {
         self.repeated();
-        while self.peek().is_some_and(|letter| letter != '+' && letter != ')') {
+        while self
+            .peek()
+            .is_some_and(|letter| letter != '+' && letter != ')')
+        {
             self.repeated();
             self.symbols.push(Symbol::Sequence);
         }
@@ -82,22 +91,38 @@ impl Parser {
         while self.peek().is_some_and(|letter| letter.is_ascii_digit()) {
             self.at += 1;
         }
-        self.letters[begin..self.at].iter().collect::<String>().parse().ok()
+        self.letters[begin..self.at]
+            .iter()
+            .collect::<String>()
+            .parse()
+            .ok()
     }
 }
 
-#[test]
-fn parse_and_show_are_mirrors() {
-    for text in ["e", "a{2,4}", "(a+e)(b+e){0,2}", "(#5 #1{0,1}){0,1}(#5+#1)", "a{3,}{0,1}b"] {
-        let once = tree(text);
-        assert_eq!(once.symbols(), tree(&show(&once)).symbols(), "{text}");
-    }
-}
+#[cfg(test)]
+mod tests {
+    use super::tree;
+    use crate::notation::show;
 
-#[test]
-fn nodes_are_counted_in_postfix_order() {
-    let tree = tree("(a{2,3}(b+e)){0,}");
-    assert_eq!(tree.len(), 7);
-    assert_eq!(tree.left(5), 1);
-    assert_eq!(tree.around(0), [1, 6]);
+    #[test]
+    fn parse_and_show_are_mirrors() {
+        for text in [
+            "e",
+            "a{2,4}",
+            "(a+e)(b+e){0,2}",
+            "(#5 #1{0,1}){0,1}(#5+#1)",
+            "a{3,}{0,1}b",
+        ] {
+            let once = tree(text);
+            assert_eq!(once.symbols(), tree(&show(&once)).symbols(), "{text}");
+        }
+    }
+
+    #[test]
+    fn nodes_are_counted_in_postfix_order() {
+        let tree = tree("(a{2,3}(b+e)){0,}");
+        assert_eq!(tree.len(), 7);
+        assert_eq!(tree.left(5), 1);
+        assert_eq!(tree.around(0), [1, 6]);
+    }
 }

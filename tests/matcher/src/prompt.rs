@@ -32,10 +32,17 @@ pub fn following_by_automaton(loose: &Rc<Tree>, node: Option<Node>) -> u64 {
 pub fn following_by_listing(loose: &Tree, node: Option<Node>) -> u64 {
     let around = node.map_or(&[][..], |node| loose.around(node));
     let count = |repeat: &Node| u32::from(around.contains(repeat));
-    let place = Place { node, counts: loose.repeats().iter().map(count).collect() };
+    let place = Place {
+        node,
+        counts: loose.repeats().iter().map(count).collect(),
+    };
     let mut listing = Listing::new(loose);
     let stack = listing.stack_at(&place);
-    listing.ways(stack).steps.iter().fold(0, |codes, step| codes | bit(loose, step.node))
+    listing
+        .ways(stack)
+        .steps
+        .iter()
+        .fold(0, |codes, step| codes | bit(loose, step.node))
 }
 
 fn bit(tree: &Tree, event: Node) -> u64 {

@@ -36,7 +36,10 @@ impl Item {
 
 /// The bytes of a record.
 pub fn write(items: &[Item]) -> Vec<u8> {
-    items.iter().flat_map(|item| item.number().to_le_bytes()).collect()
+    items
+        .iter()
+        .flat_map(|item| item.number().to_le_bytes())
+        .collect()
 }
 
 /// The items of a record, `None` where its bytes are odd or a mark is unknown.
@@ -44,7 +47,10 @@ pub fn read(bytes: &[u8]) -> Option<Vec<Item>> {
     if bytes.len() % 2 != 0 {
         return None;
     }
-    bytes.chunks(2).map(|pair| Item::of_number(u16::from_le_bytes([pair[0], pair[1]]))).collect()
+    bytes
+        .chunks(2)
+        .map(|pair| Item::of_number(u16::from_le_bytes([pair[0], pair[1]])))
+        .collect()
 }
 
 #[cfg(test)]
@@ -53,7 +59,12 @@ mod tests {
 
     #[test]
     fn items_and_numbers_are_mirrors() {
-        let items = [Item::Opening(1), Item::Event(0), Item::Closing(1), Item::Event(511)];
+        let items = [
+            Item::Opening(1),
+            Item::Event(0),
+            Item::Closing(1),
+            Item::Event(511),
+        ];
         let bytes = write(&items);
         assert_eq!(bytes, [1, 16, 0, 0, 1, 32, 255, 1]);
         assert_eq!(read(&bytes), Some(items.to_vec()));

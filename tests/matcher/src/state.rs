@@ -17,14 +17,19 @@ pub struct Place {
 
 impl Place {
     pub fn start(tree: &Tree) -> Place {
-        Place { node: None, counts: vec![0; tree.repeats().len()] }
+        Place {
+            node: None,
+            counts: vec![0; tree.repeats().len()],
+        }
     }
 
     /// The bytes of the state.
     pub fn write(&self) -> Vec<u8> {
         let node = self.node.map_or(0, |node| node + 1) as u16;
         let mut bytes = node.to_le_bytes().to_vec();
-        self.counts.iter().for_each(|&count| bytes.extend((count as u16).to_le_bytes()));
+        self.counts
+            .iter()
+            .for_each(|&count| bytes.extend((count as u16).to_le_bytes()));
         bytes.resize(STATE_BYTES, 0);
         bytes
     }
@@ -34,11 +39,16 @@ impl Place {
         if bytes.len() != STATE_BYTES {
             return None;
         }
-        let numbers: Vec<u32> =
-            bytes.chunks(2).map(|pair| u32::from(pair[0]) + 256 * u32::from(pair[1])).collect();
+        let numbers: Vec<u32> = bytes
+            .chunks(2)
+            .map(|pair| u32::from(pair[0]) + 256 * u32::from(pair[1]))
+            .collect();
         let (told, past) = numbers[1..].split_at(tree.repeats().len());
         let node = (numbers[0] as usize).checked_sub(1);
-        let place = Place { node, counts: told.to_vec() };
+        let place = Place {
+            node,
+            counts: told.to_vec(),
+        };
         let past_is_zero = past.iter().all(|&count| count == 0);
         (past_is_zero && place.is_reached(tree)).then_some(place)
     }
@@ -47,17 +57,23 @@ impl Place {
     /// independently of the others; nothing else is. The listing shows it for
     /// all small trees.
     fn is_reached(&self, tree: &Tree) -> bool {
-        if self.node.is_some_and(|node| node >= tree.len() || tree.code(node).is_none()) {
+        if self
+            .node
+            .is_some_and(|node| node >= tree.len() || tree.code(node).is_none())
+        {
             return false;
         }
         let around = self.node.map_or(&[][..], |node| tree.around(node));
-        tree.repeats().iter().zip(&self.counts).all(|(repeat, &count)| {
-            if around.contains(repeat) {
-                (1..=tree.cap(*repeat)).contains(&count)
-            } else {
-                count == 0
-            }
-        })
+        tree.repeats()
+            .iter()
+            .zip(&self.counts)
+            .all(|(repeat, &count)| {
+                if around.contains(repeat) {
+                    (1..=tree.cap(*repeat)).contains(&count)
+                } else {
+                    count == 0
+                }
+            })
     }
 
     /// The place where the items lead, counted as 01 tells: an opening begins
@@ -72,7 +88,11 @@ impl Place {
             }
         }
         let around = place.node.map_or(&[][..], |node| tree.around(node));
-        for repeat in tree.repeats().iter().filter(|repeat| !around.contains(repeat)) {
+        for repeat in tree
+            .repeats()
+            .iter()
+            .filter(|repeat| !around.contains(repeat))
+        {
             place.counts[tree.rank(*repeat)] = 0;
         }
         place
@@ -81,7 +101,11 @@ impl Place {
     fn begin_block(&mut self, tree: &Tree, repeat: Node) {
         let count = &mut self.counts[tree.rank(repeat)];
         *count = (*count + 1).min(tree.cap(repeat));
-        for inner in tree.repeats().iter().filter(|inner| tree.around(**inner).contains(&repeat)) {
+        for inner in tree
+            .repeats()
+            .iter()
+            .filter(|inner| tree.around(**inner).contains(&repeat))
+        {
             self.counts[tree.rank(*inner)] = 0;
         }
     }

@@ -10,7 +10,11 @@ pub const MOST_SLICE: usize = 1_048_576;
 fn slices(call: &Call) -> (u8, Vec<&[u8]>) {
     match call {
         Call::Judge { file } => (b'J', vec![file]),
-        Call::Follow { file, state, events } => (b'F', vec![file, state, events]),
+        Call::Follow {
+            file,
+            state,
+            events,
+        } => (b'F', vec![file, state, events]),
         Call::Write { file, run, space } => (b'W', vec![file, run, space]),
         Call::Check { file, record } => (b'C', vec![file, record]),
         Call::Prompt { file, state } => (b'P', vec![file, state]),
@@ -32,11 +36,25 @@ pub fn bytes(call: &Call) -> Vec<u8> {
 /// The line of one outcome, line feed included.
 pub fn line(outcome: &Outcome) -> String {
     match outcome {
-        Outcome::Judge { answer, node, kind, code } => format!("J {answer} {node} {kind} {code}\n"),
-        Outcome::Follow { answer, taken, verdict, state } => {
+        Outcome::Judge {
+            answer,
+            node,
+            kind,
+            code,
+        } => format!("J {answer} {node} {kind} {code}\n"),
+        Outcome::Follow {
+            answer,
+            taken,
+            verdict,
+            state,
+        } => {
             format!("F {answer} {taken} {verdict} {}\n", hex(state))
         }
-        Outcome::Write { answer, length, space } => format!("W {answer} {length} {}\n", hex(space)),
+        Outcome::Write {
+            answer,
+            length,
+            space,
+        } => format!("W {answer} {length} {}\n", hex(space)),
         Outcome::Check { answer, yes } => format!("C {answer} {yes}\n"),
         Outcome::Prompt { answer, set } => format!("P {answer} {set}\n"),
     }
@@ -71,17 +89,38 @@ mod tests {
 
     #[test]
     fn a_call_is_a_letter_and_counted_slices() {
-        let call = Call::Follow { file: vec![7], state: vec![], events: vec![1, 2] };
-        assert_eq!(bytes(&call), [b'F', 1, 0, 0, 0, 7, 0, 0, 0, 0, 2, 0, 0, 0, 1, 2]);
+        let call = Call::Follow {
+            file: vec![7],
+            state: vec![],
+            events: vec![1, 2],
+        };
+        assert_eq!(
+            bytes(&call),
+            [b'F', 1, 0, 0, 0, 7, 0, 0, 0, 0, 2, 0, 0, 0, 1, 2]
+        );
     }
 
     #[test]
     fn an_outcome_is_a_line() {
-        let judged = Outcome::Judge { answer: 7, node: 2, kind: 4, code: 0 };
+        let judged = Outcome::Judge {
+            answer: 7,
+            node: 2,
+            kind: 4,
+            code: 0,
+        };
         assert_eq!(line(&judged), "J 7 2 4 0\n");
-        let written = Outcome::Write { answer: 0, length: 1, space: vec![1, 255] };
+        let written = Outcome::Write {
+            answer: 0,
+            length: 1,
+            space: vec![1, 255],
+        };
         assert_eq!(line(&written), "W 0 1 01ff\n");
-        let refused = Outcome::Follow { answer: 8, taken: 0, verdict: 0, state: vec![] };
+        let refused = Outcome::Follow {
+            answer: 8,
+            taken: 0,
+            verdict: 0,
+            state: vec![],
+        };
         assert_eq!(line(&refused), "F 8 0 0 -\n");
     }
 }

@@ -20,8 +20,19 @@ pub struct Trail {
 impl Trail {
     /// Goes on at random for up to `most` events; where a reading may end it
     /// stops in so many of a hundred.
-    pub fn walk(automaton: &Automaton, random: &mut Random, from: Place, most: usize, stop: usize) -> Trail {
-        let mut trail = Trail { codes: Vec::new(), items: Vec::new(), places: vec![from.clone()], ends: None };
+    pub fn walk(
+        automaton: &Automaton,
+        random: &mut Random,
+        from: Place,
+        most: usize,
+        stop: usize,
+    ) -> Trail {
+        let mut trail = Trail {
+            codes: Vec::new(),
+            items: Vec::new(),
+            places: vec![from.clone()],
+            ends: None,
+        };
         let mut place = from;
         loop {
             if automaton.end(&place).is_some() {
@@ -37,7 +48,9 @@ impl Trail {
             let step = random.pick(&moves);
             automaton.add_items(place.node, &step, &mut trail.items);
             automaton.apply(&mut place, &step);
-            trail.codes.push(automaton.tree.code(step.to).expect("an event"));
+            trail
+                .codes
+                .push(automaton.tree.code(step.to).expect("an event"));
             trail.places.push(place.clone());
         }
         trail
@@ -51,7 +64,13 @@ impl Trail {
             if trail.ends.is_some_and(|(codes, _)| codes > 0) {
                 break;
             }
-            trail = Trail::walk(automaton, random, Place::start(&automaton.tree), 2 * most, 6);
+            trail = Trail::walk(
+                automaton,
+                random,
+                Place::start(&automaton.tree),
+                2 * most,
+                6,
+            );
         }
         trail
     }
@@ -60,14 +79,22 @@ impl Trail {
     pub fn complete(&self, automaton: &Automaton) -> Option<(Vec<u8>, Vec<Item>)> {
         let (codes, items) = self.ends?;
         let marks = automaton.end(&self.places[codes])?;
-        Some((self.codes[..codes].to_vec(), [&self.items[..items], &marks].concat()))
+        Some((
+            self.codes[..codes].to_vec(),
+            [&self.items[..items], &marks].concat(),
+        ))
     }
 
     /// The codes with one that does not continue set in at a place.
     pub fn broken(&self, automaton: &Automaton, random: &mut Random, at: usize) -> Vec<u8> {
         let place = &self.places[at];
         let stuck = |code: &u8| automaton.allowed_by(place, *code).next().is_none();
-        let known: Vec<u8> = automaton.tree.events().filter_map(|node| automaton.tree.code(node)).filter(stuck).collect();
+        let known: Vec<u8> = automaton
+            .tree
+            .events()
+            .filter_map(|node| automaton.tree.code(node))
+            .filter(stuck)
+            .collect();
         let code = if known.is_empty() || random.percent(30) {
             random.pick(&[64, 65, 128, 191, 192, 255])
         } else {
@@ -124,10 +151,17 @@ pub fn wrong_state(automaton: &Automaton, random: &mut Random, turn: usize) -> V
             bytes[..2].copy_from_slice(&(other as u16 + 1).to_le_bytes());
         }
         5 => bytes[..2].copy_from_slice(&[0, 0]),
-        6 => change_counter(&mut bytes, random.below(32), random.pick(&[1, 65_535, 256, 4_096])),
+        6 => change_counter(
+            &mut bytes,
+            random.below(32),
+            random.pick(&[1, 65_535, 256, 4_096]),
+        ),
         _ => {
             let rank = random.below(tree.repeats().len().max(1));
-            let over = tree.repeats().get(rank).map_or(1, |&repeat| tree.cap(repeat) + 1);
+            let over = tree
+                .repeats()
+                .get(rank)
+                .map_or(1, |&repeat| tree.cap(repeat) + 1);
             let wrong = random.pick(&[0, over, over + 1, 4_097, 65_535]);
             bytes[2 + 2 * rank..4 + 2 * rank].copy_from_slice(&(wrong as u16).to_le_bytes());
         }
@@ -145,12 +179,21 @@ fn change_counter(bytes: &mut [u8], rank: usize, add: u16) {
 pub const RECORD_CHANGES: usize = 10;
 
 /// A record's bytes changed in one way; it may by chance still be a record.
-pub fn wrong_record(automaton: &Automaton, random: &mut Random, items: &[Item], turn: usize) -> Vec<u8> {
+pub fn wrong_record(
+    automaton: &Automaton,
+    random: &mut Random,
+    items: &[Item],
+    turn: usize,
+) -> Vec<u8> {
     let mut numbers: Vec<u16> = items.iter().map(|item| item.number()).collect();
     let place = random.below(numbers.len().max(1));
     let node = random.below(automaton.tree.len() + 2) as u16;
     let repeats = automaton.tree.repeats();
-    let repeat = if repeats.is_empty() { node } else { random.pick(repeats) as u16 };
+    let repeat = if repeats.is_empty() {
+        node
+    } else {
+        random.pick(repeats) as u16
+    };
     match turn % RECORD_CHANGES {
         _ if numbers.is_empty() => numbers.push(node),
         0 => numbers[place] = numbers[place] % 4_096 + 4_096 * random.below(16) as u16,
@@ -173,9 +216,16 @@ pub fn wrong_record(automaton: &Automaton, random: &mut Random, items: &[Item], 
         }
         _ => {}
     }
-    let mut bytes: Vec<u8> = numbers.iter().flat_map(|number| number.to_le_bytes()).collect();
+    let mut bytes: Vec<u8> = numbers
+        .iter()
+        .flat_map(|number| number.to_le_bytes())
+        .collect();
     if turn % RECORD_CHANGES == 9 {
-        if random.percent(50) { bytes.push(0) } else { bytes.truncate(bytes.len() - 1) }
+        if random.percent(50) {
+            bytes.push(0)
+        } else {
+            bytes.truncate(bytes.len() - 1)
+        }
     }
     bytes
 }

@@ -72,7 +72,14 @@ impl Tree {
             })
             .collect();
         let nullable = vec![false; symbols.len()];
-        let mut tree = Tree { symbols, start, nullable, repeats, rank, around };
+        let mut tree = Tree {
+            symbols,
+            start,
+            nullable,
+            repeats,
+            rank,
+            around,
+        };
         for node in 0..tree.len() {
             tree.nullable[node] = tree.has_empty_word(node);
         }
@@ -163,7 +170,11 @@ impl Tree {
     /// The bounds in normal form: lower is 0 where the body has the empty word.
     pub fn normal_bounds(&self, repeat: Node) -> Bounds {
         let bounds = self.bounds(repeat);
-        let lower = if self.nullable(self.body(repeat)) { 0 } else { bounds.lower };
+        let lower = if self.nullable(self.body(repeat)) {
+            0
+        } else {
+            bounds.lower
+        };
         Bounds { lower, ..bounds }
     }
 
@@ -175,7 +186,9 @@ impl Tree {
 
     /// Whether some repeat stands inside another.
     pub fn has_nested_repeats(&self) -> bool {
-        self.repeats.iter().any(|&repeat| !self.around(repeat).is_empty())
+        self.repeats
+            .iter()
+            .any(|&repeat| !self.around(repeat).is_empty())
     }
 }
 

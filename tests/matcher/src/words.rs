@@ -15,7 +15,10 @@ pub struct Piece {
 /// What is still to come, the next piece last.
 pub type Rest = Vec<Piece>;
 
-const ONCE: Bounds = Bounds { lower: 1, upper: Some(1) };
+const ONCE: Bounds = Bounds {
+    lower: 1,
+    upper: Some(1),
+};
 
 /// The words of one tree.
 pub struct Words<'t> {
@@ -26,7 +29,10 @@ pub struct Words<'t> {
 
 impl<'t> Words<'t> {
     pub fn new(tree: &'t Tree) -> Words<'t> {
-        let mut words = Words { tree, begins: Vec::with_capacity(tree.len()) };
+        let mut words = Words {
+            tree,
+            begins: Vec::with_capacity(tree.len()),
+        };
         for part in 0..tree.len() {
             let codes = words.beginnings(part);
             words.begins.push(codes);
@@ -76,7 +82,13 @@ impl<'t> Words<'t> {
                 lower: bounds.lower.saturating_sub(begun),
                 upper: bounds.upper.map(|upper| upper - begun),
             };
-            push(rest, Piece { part: tree.body(part), times });
+            push(
+                rest,
+                Piece {
+                    part: tree.body(part),
+                    times,
+                },
+            );
             return tree.body(part);
         }
         let left = tree.left(part);
@@ -84,7 +96,13 @@ impl<'t> Words<'t> {
             return tree.right(part);
         }
         if tree.symbol(part) == Symbol::Sequence {
-            push(rest, Piece { part: tree.right(part), times: ONCE });
+            push(
+                rest,
+                Piece {
+                    part: tree.right(part),
+                    times: ONCE,
+                },
+            );
         }
         left
     }
@@ -122,7 +140,13 @@ impl<'t> Words<'t> {
             return;
         }
         let depth = below.len();
-        push(below, Piece { times: piece.times.less_one(), ..piece });
+        push(
+            below,
+            Piece {
+                times: piece.times.less_one(),
+                ..piece
+            },
+        );
         self.derive_part(piece.part, code, below, found);
         below.truncate(depth);
     }
@@ -141,7 +165,13 @@ impl<'t> Words<'t> {
             }
             Symbol::Sequence => {
                 let depth = below.len();
-                push(below, Piece { part: tree.right(part), times: ONCE });
+                push(
+                    below,
+                    Piece {
+                        part: tree.right(part),
+                        times: ONCE,
+                    },
+                );
                 self.derive_part(tree.left(part), code, below, found);
                 below.truncate(depth);
                 if tree.nullable(tree.left(part)) {
@@ -149,20 +179,35 @@ impl<'t> Words<'t> {
                 }
             }
             Symbol::Repeat(times) => {
-                self.derive_piece(Piece { part: tree.body(part), times }, code, below, found);
+                self.derive_piece(
+                    Piece {
+                        part: tree.body(part),
+                        times,
+                    },
+                    code,
+                    below,
+                    found,
+                );
             }
         }
     }
 
     /// The codes that begin what the lists may still bring.
     pub fn codes_next(&self, rests: &[Rest]) -> u64 {
-        let has = |code: &u8| rests.iter().any(|rest| !self.derive(rest, *code).is_empty());
+        let has = |code: &u8| {
+            rests
+                .iter()
+                .any(|rest| !self.derive(rest, *code).is_empty())
+        };
         (0..64).filter(has).fold(0, |codes, code| codes | 1 << code)
     }
 
     /// All lists that can come after the code from any of the given ones.
     pub fn derive_all(&self, rests: &[Rest], code: u8) -> Vec<Rest> {
-        let mut all: Vec<Rest> = rests.iter().flat_map(|rest| self.derive(rest, code)).collect();
+        let mut all: Vec<Rest> = rests
+            .iter()
+            .flat_map(|rest| self.derive(rest, code))
+            .collect();
         all.sort();
         all.dedup();
         all
@@ -247,7 +292,10 @@ mod tests {
     /// Source 000, introduction: the two expressions have one language.
     #[test]
     fn source_000_rewriting_keeps_the_language() {
-        assert_eq!(words_up_to("(a+b){0,}a", 6), words_up_to("b{0,}a(b{0,}a){0,}", 6));
+        assert_eq!(
+            words_up_to("(a+b){0,}a", 6),
+            words_up_to("b{0,}a(b{0,}a){0,}", 6)
+        );
     }
 
     /// Source 001, section 3: followlast of a + ab is b, by definition.
