@@ -10,7 +10,7 @@ use crate::limits;
 use crate::parse;
 use crate::random::Random;
 use crate::record;
-use crate::state::{Place, STATE_BYTES};
+use crate::state::STATE_BYTES;
 use crate::themes::{Theme, Theme as T, BENCH, ROUND};
 use crate::trail::{self, Trail};
 use crate::tree::{Bounds, Symbol, Tree};
@@ -114,22 +114,23 @@ impl Maker {
             .map(|_| u8::from(self.random.percent(25)))
             .collect();
         let state = trail::place(&procedure.automaton, &mut self.random).write();
-        match turn / BENCH.len() % 5 {
-            0 => Call::Follow {
+        match turn / BENCH.len() % 6 {
+            0 => Call::Judge { file },
+            1 => Call::Follow {
                 file,
                 state: vec![0; STATE_BYTES],
                 events: run,
             },
-            1 => Call::Write {
+            2 => Call::Write {
                 file,
                 run,
                 space: self.random.bytes(40),
             },
-            2 => Call::Check {
+            3 => Call::Check {
                 file,
                 record: self.record(&procedure, 6),
             },
-            3 => Call::Prompt { file, state },
+            4 => Call::Prompt { file, state },
             _ => Call::Follow {
                 file,
                 state,
@@ -348,5 +349,34 @@ impl Maker {
             file: self.file(&procedure.tree),
             state: place.write(),
         }
+    }
+}
+
+#[cfg(test)]
+mod tests {
+    use super::Maker;
+    use crate::calls::answer;
+    use crate::coverage::Coverage;
+    use crate::stream::bytes;
+
+    #[test]
+    fn a_seed_makes_the_same_cases_again() {
+        let made = |seed: u64| {
+            let mut maker = Maker::new(seed);
+            (0..300).map(|_| bytes(&maker.next())).collect::<Vec<_>>()
+        };
+        assert_eq!(made(5), made(5));
+        assert_ne!(made(5), made(6));
+    }
+
+    #[test]
+    fn two_thousand_cases_cover_every_outcome() {
+        let mut maker = Maker::new(1);
+        let mut coverage = Coverage::default();
+        for _ in 0..2_000 {
+            let call = maker.next();
+            coverage.add(&call, &answer(&call));
+        }
+        assert_eq!(coverage.gaps(), [""; 0]);
     }
 }

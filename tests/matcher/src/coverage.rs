@@ -4,9 +4,11 @@
 use crate::calls::{Call, Outcome};
 use crate::file;
 
-/// Large sets must have each outcome this often; others once.
+/// Large sets must have each outcome this often, middling ones once; small
+/// sets are free.
 const OFTEN: usize = 50;
 const LARGE_SET: usize = 20_000;
+const MIDDLING_SET: usize = 2_000;
 
 /// Each call with the answers that it can give.
 const ANSWERS: [(&str, &[u32]); 5] = [
@@ -120,7 +122,11 @@ impl Coverage {
 
     /// What the set covers too little, in words.
     pub fn gaps(&self) -> Vec<String> {
-        let least = if self.cases >= LARGE_SET { OFTEN } else { 1 };
+        let least = match self.cases {
+            LARGE_SET.. => OFTEN,
+            MIDDLING_SET.. => 1,
+            _ => return Vec::new(),
+        };
         let low = self
             .counts()
             .into_iter()

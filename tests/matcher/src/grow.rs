@@ -253,6 +253,40 @@ pub fn row(random: &mut Random, repeats: usize) -> Vec<Symbol> {
     symbols
 }
 
+/// A repeat whose body may be empty, with a lower bound that normal form
+/// takes away; perhaps more after it and around it.
+fn hollow(random: &mut Random) -> Tree {
+    let mut symbols = Vec::new();
+    for item in 0..random.within(1, 3) {
+        let code = 3 * item as u8;
+        symbols.push(Symbol::Event(code));
+        if random.percent(40) {
+            symbols.push(Symbol::Repeat(bounds(random, Reach::Exact)));
+        }
+        if random.percent(30) {
+            symbols.extend([Symbol::Event(code + 1), Symbol::Sequence]);
+        }
+        if item > 0 {
+            symbols.push(Symbol::Choice);
+        }
+    }
+    let optional = Symbol::Repeat(Bounds {
+        lower: 0,
+        upper: Some(1),
+    });
+    symbols.extend(random.pick(&[vec![Symbol::Empty, Symbol::Choice], vec![optional]]));
+    let lower = random.pick(&[1, 2, 2, 3, 3, 4_096]);
+    let upper = random.pick(&[None, None, Some(lower), Some(4_096)]);
+    symbols.push(Symbol::Repeat(Bounds { lower, upper }));
+    if random.percent(60) {
+        symbols.extend([Symbol::Event(20), Symbol::Sequence]);
+    }
+    if random.percent(60) {
+        symbols.push(Symbol::Repeat(bounds(random, Reach::Small)));
+    }
+    made(symbols)
+}
+
 fn made(symbols: Vec<Symbol>) -> Tree {
     Tree::from_postfix(symbols).expect("a tree was grown")
 }
@@ -277,7 +311,7 @@ fn wanted(
 
 /// A small or middling procedure without conflict.
 pub fn admitted(random: &mut Random) -> Procedure {
-    let grow = random.pick(&[small as fn(&mut Random) -> Tree, middle]);
+    let grow = random.pick(&[small as fn(&mut Random) -> Tree, small, hollow, middle]);
     wanted(random, grow, |procedure| procedure.conflict.is_none())
 }
 
@@ -290,6 +324,7 @@ pub fn nested(random: &mut Random) -> Procedure {
     let grow = random.pick(&[
         small as fn(&mut Random) -> Tree,
         small,
+        hollow,
         middle,
         middle,
         deep,
@@ -309,6 +344,7 @@ pub fn conflicted(random: &mut Random, kind: u32) -> Procedure {
             small,
             joined,
             joined,
+            hollow,
             middle,
         ]);
         let tree = grow(random);

@@ -44,7 +44,7 @@ use Theme as T;
 /// How many cases of each theme a round has.
 pub const ROUND: [(Theme, usize); 34] = [
     (T::JudgeRefused, 12),
-    (T::Bench, 12),
+    (T::Bench, 20),
     (T::Field, 14),
     (T::Limit, 10),
     (T::JudgeSmall, 10),
@@ -80,7 +80,7 @@ pub const ROUND: [(Theme, usize); 34] = [
 ];
 
 /// The procedures of 01's bench cases, and others that its wording settles.
-pub const BENCH: [&str; 20] = [
+pub const BENCH: [&str; 24] = [
     "a{2,4}",
     "(a{0,1}){0,3}",
     "(a{1,2}){3,4}",
@@ -101,4 +101,8 @@ pub const BENCH: [&str; 20] = [
     "a{0,1}+b{0,1}",
     "(a+e){2,2}b",
     "((a+e){3,3}b{0,1}){0,2}",
+    "((a+e){2,2}){0,2}",
+    "(e(a+e){3,3}){1,2}",
+    "(a+e){3,}b",
+    "((a{0,1}b{0,1}){2,}c){0,2}",
 ];
