@@ -12,19 +12,19 @@ pub struct Compared {
     pub differ: usize,
 }
 
-/// Compares line by line; a line that only one side has differs.
+/// Compares line by line, line feeds included; a line that only one side has
+/// differs.
 pub fn compare(
-    expected: impl BufRead,
-    actual: impl BufRead,
+    mut expected: impl BufRead,
+    mut actual: impl BufRead,
     mut tell: impl FnMut(String),
 ) -> Result<Compared> {
-    let (mut expected, mut actual) = (expected.split(b'\n'), actual.split(b'\n'));
     let mut compared = Compared {
         lines: 0,
         differ: 0,
     };
     loop {
-        let (wanted, given) = (expected.next().transpose()?, actual.next().transpose()?);
+        let (wanted, given) = (next_line(&mut expected)?, next_line(&mut actual)?);
         if wanted.is_none() && given.is_none() {
             return Ok(compared);
         }
@@ -43,6 +43,13 @@ pub fn compare(
     }
 }
 
+/// The next line with its line feed, `None` at the end.
+fn next_line(lines: &mut impl BufRead) -> Result<Option<Vec<u8>>> {
+    let mut line = Vec::new();
+    let read = lines.read_until(b'\n', &mut line)?;
+    Ok((read > 0).then_some(line))
+}
+
 fn difference(wanted: Option<Vec<u8>>, given: Option<Vec<u8>>) -> String {
     let (Some(wanted), Some(given)) = (&wanted, &given) else {
         let side = if wanted.is_some() {
@@ -56,19 +63,22 @@ fn difference(wanted: Option<Vec<u8>>, given: Option<Vec<u8>>) -> String {
         String::from_utf8_lossy(wanted),
         String::from_utf8_lossy(given),
     );
-    let (wanted, given): (Vec<&str>, Vec<&str>) =
-        (wanted.split(' ').collect(), given.split(' ').collect());
-    let names = field_names(wanted[0]);
+    if wanted.trim_end_matches('\n') == given.trim_end_matches('\n') {
+        return "the line feed at its end differs".to_string();
+    }
+    let fields = |line: &str| -> Vec<String> {
+        let line = line.trim_end_matches('\n');
+        line.split(' ').map(str::to_string).collect()
+    };
+    let (wanted, given) = (fields(&wanted), fields(&given));
+    let names = field_names(&wanted[0]);
     let differs = |place: &usize| wanted.get(*place) != given.get(*place);
     let places = (0..wanted.len().max(given.len())).filter(differs);
     let told: Vec<String> = places
         .map(|place| {
             let name = names.get(place).unwrap_or(&"a field too many");
-            field_difference(
-                name,
-                wanted.get(place).unwrap_or(&""),
-                given.get(place).unwrap_or(&""),
-            )
+            let field = |line: &[String]| line.get(place).cloned().unwrap_or_default();
+            field_difference(name, &field(&wanted), &field(&given))
         })
         .collect();
     format!("{}: {}", wanted[0], told.join("; "))
@@ -136,6 +146,17 @@ mod tests {
             }
         );
         assert_eq!(lines, ["case 1: F: verdict is 2, 1 was expected"]);
+    }
+
+    #[test]
+    fn a_missing_line_feed_differs() {
+        assert_eq!(
+            told("C 0 1\n", "C 0 1").0,
+            Compared {
+                lines: 1,
+                differ: 1
+            }
+        );
     }
 
     #[test]

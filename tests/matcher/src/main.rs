@@ -62,6 +62,7 @@ fn make(seed: &str, cases: &str, stream: &str, expected: &str) -> Result<(), Str
     let cases: usize = cases
         .parse()
         .map_err(|_| format!("{cases} is no number of cases"))?;
+    println!("seed {seed}, {cases} cases, readings listed up to {HORIZON} events");
     let mut maker = cases::Maker::new(seed);
     let mut coverage = coverage::Coverage::default();
     let (mut calls, mut lines) = (create(stream)?, create(expected)?);
@@ -76,7 +77,6 @@ fn make(seed: &str, cases: &str, stream: &str, expected: &str) -> Result<(), Str
             .map_err(failed)?;
     }
     calls.flush().and_then(|()| lines.flush()).map_err(failed)?;
-    println!("seed {seed}, {cases} cases, readings listed up to {HORIZON} events");
     print!("{}", coverage.table());
     let gaps = coverage.gaps();
     if gaps.is_empty() {
