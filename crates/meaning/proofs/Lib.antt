@@ -25,3 +25,11 @@ pub mod Records
 pub mod Stays
 pub mod States
 pub mod Continue
+pub mod Listed
+pub mod Answer
+pub mod ConflictList
+pub mod Spots
+pub mod Search
+pub mod Followed
+pub mod Bench
+pub mod Errors
