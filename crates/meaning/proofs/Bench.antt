@@ -15,7 +15,8 @@ use Rattle.meaning.specs.Record.{itemNumber}
 use Rattle.meaning.specs.Promises.{Takes, VerdictOf}
 use Rattle.meaning.proofs.Listed.{some}
 use Rattle.meaning.proofs.Answer.{Answer, found, unknown, if-so, then, next, both, equal, every}
-use Rattle.meaning.proofs.ConflictList.{bounded, no-conflict, lowest}
+use Rattle.meaning.proofs.Bounds.{bounded}
+use Rattle.meaning.proofs.ConflictList.{no-conflict, lowest}
 use Rattle.meaning.proofs.Unique.{free-iff-no-conflict, free-strong}
 use Rattle.meaning.proofs.Search.{reading-list, state-list}
 use Rattle.meaning.proofs.Followed.{follows, never}
@@ -49,14 +50,15 @@ Says e (state u n counts) = (z : State) → Reaches e u z ↔ (z ≡ record { no
 pub data Case : Type 0 where
   case : Expr → List Claim → Case
 
--- every claim of a case, and of a table
-abbrev pub AllSaid : Expr → List Claim → Type 0
-AllSaid e [] = Unit {0}
-AllSaid e (k ∷ ks) = Says e k × AllSaid e ks
+-- every claim about the expression holds
+abbrev pub CaseHolds : Expr → List Claim → Type 0
+CaseHolds e [] = Unit {0}
+CaseHolds e (k ∷ ks) = Says e k × CaseHolds e ks
 
-abbrev pub Holds : List Case → Type 0
-Holds [] = Unit {0}
-Holds (case e ks ∷ cases) = AllSaid e ks × Holds cases
+-- every case of the table holds
+abbrev pub TableHolds : List Case → Type 0
+TableHolds [] = Unit {0}
+TableHolds (case e ks ∷ cases) = CaseHolds e ks × TableHolds cases
 
 -- the two codes of the bench cases
 abbrev a : ℕ
@@ -172,23 +174,24 @@ unfolding if-so then both equal every some reading-list
 record-is e h u numbers =
     let readings = reading-list e h u in
     then
-        (λ k. ((k .0 .0, k .0 .1 .0, k .0 .1 .1), λ x r c. k .1 x (r, c)))
-        (both (if-so (some readings)) (every readings (λ x. equal (map itemNumber x) numbers)))
+    (λ k. ((k .0 .0, k .0 .1 .0, k .0 .1 .1), λ x r c. k .1 x (r, c)))
+    (both (if-so (some readings)) (every readings (λ x. equal (map itemNumber x) numbers)))
 
--- the state after a run is the one claimed
+-- the state is the one claimed
 same-state : (z : State) (n : ℕ) (counts : List ℕ) → Answer (z ≡ record { node = n; counts = counts })
 unfolding then both if-so ℕ-discrete equal
 same-state z n counts = then (λ h i. record { node = h .0 i; counts = h .1 i }) (both (if-so (ℕ-discrete (z .node) n)) (equal (z .counts) counts))
 
+-- the state after a run is the one claimed, and no other
 state-is : (e : Expr) → Bounded e → (u : List ℕ) (n : ℕ) (counts : List ℕ) → Answer (Says e (state u n counts))
 unfolding if-so then both every some state-list same-state
 state-is e h u n counts =
     let states = state-list e h u in
     then
-        (λ k z. (k .1 z, λ p. subst (Reaches e u) (k .1 (k .0 .0) (k .0 .1) ∙ sym p) (k .0 .1)))
-        (both (if-so (some states)) (every states (λ z. same-state z n counts)))
+    (λ k z. (k .1 z, λ p. subst (Reaches e u) (k .1 (k .0 .0) (k .0 .1) ∙ sym p) (k .0 .1)))
+    (both (if-so (some states)) (every states (λ z. same-state z n counts)))
 
--- a claim, found by computing
+-- a claim is found by computing
 unfoldable pub decide : (e : Expr) (k : Claim) → Answer (Says e k)
 unfolding then next bounded no-conflict lowest follows never record-is state-is
 decide e admitted = next (bounded e) (λ h. then (λ n. free-strong e h (free-iff-no-conflict 0 e .1 n)) (no-conflict e))
@@ -198,39 +201,43 @@ decide e no-event = next (bounded e) (never e)
 decide e (recorded u numbers) = next (bounded e) (λ h. record-is e h u numbers)
 decide e (state u n counts) = next (bounded e) (λ h. state-is e h u n counts)
 
--- a claim that was not found; the check of the table names the first
+-- a claim that was not found; where the table does not hold, the check shows the first such
 data NotFound (e : Expr) (k : Claim) : Type 0 where
 
+-- the claim is found, and then the rest
 FoundThen : (e : Expr) (k : Claim) → Answer (Says e k) → Type 0 → Type 0
 FoundThen e k (found p) rest = rest
 FoundThen e k unknown rest = NotFound e k
 
+-- every claim about the expression is found, and then the rest
 Found : Expr → List Claim → Type 0 → Type 0
 unfolding decide FoundThen
 Found e [] rest = rest
 Found e (k ∷ ks) rest = FoundThen e k (decide e k) (Found e ks rest)
 
+-- every claim of the table is found
 AllFound : List Case → Type 0
 unfolding Found
 AllFound [] = Unit {0}
 AllFound (case e ks ∷ cases) = Found e ks (AllFound cases)
 
--- what was found holds
-said : (e : Expr) (ks : List Claim) (rest : Type 0) → Found e ks rest → AllSaid e ks × rest
+-- claims that were found hold
+said : (e : Expr) (ks : List Claim) (rest : Type 0) → Found e ks rest → CaseHolds e ks × rest
 unfolding Found FoundThen
 said e [] rest h = (tt, h)
 said e (k ∷ ks) rest h = go (decide e k) (said e ks rest) h
   where
-    go : (p : Answer (Says e k)) → (Found e ks rest → AllSaid e ks × rest) → FoundThen e k p (Found e ks rest) → AllSaid e (k ∷ ks) × rest
+    go : (p : Answer (Says e k)) → (Found e ks rest → CaseHolds e ks × rest) → FoundThen e k p (Found e ks rest) → CaseHolds e (k ∷ ks) × rest
     go (found p) on f = let t = on f in ((p, t .0), t .1)
     go unknown on f = elim f [ ]
 
-hold : (cases : List Case) → AllFound cases → Holds cases
+-- a table that was found holds
+hold : (cases : List Case) → AllFound cases → TableHolds cases
 unfolding AllFound
 hold [] h = tt
 hold (case e ks ∷ cases) h = let t = said e ks (AllFound cases) h in (t .0, hold cases (t .1))
 
 -- every claim of the table holds
-pub bench-cases : Holds table
+pub bench-cases : TableHolds table
 unfolding AllFound
 bench-cases = hold table tt

@@ -4,28 +4,13 @@ use mathlib.Core.Logic.{_⊎_, inl, inr, ⊎-elim, Dec·and}
 use mathlib.Core.Bool.{Bool-discrete, true}
 use Prim.Native.Nat.{ℕ, _+_, _≤_}
 use native.Mathlib.Decide.{ℕ-discrete, decLe}
-use Rattle.meaning.specs.Expr.{Expr, empty, event, choice, sequence, repeat, size, root, Upper, upto, endless, Within, Whole, Bounded}
+use Rattle.meaning.specs.Expr.{Expr, empty, event, choice, sequence, repeat, size, root, Upper, Whole}
 use Rattle.meaning.specs.Normal.{nullable, low}
 use Rattle.meaning.specs.Sets.{First, Starts, Flexible, After}
 use Rattle.meaning.specs.Conflict.{Conflict, ConflictAt, LowestConflict}
 use Rattle.meaning.proofs.Listed.{Listed, nothing, only, either, kept, same, given, mapped, some, holds, decided}
-use Rattle.meaning.proofs.Answer.{Answer, found, unknown, if-so, then, both, provided, every}
-
--- the upper bound allows so many
-unfoldable pub within-decided : (j : ℕ) (upper : Upper) → Dec (Within j upper)
-unfolding decLe
-within-decided j (upto n) = decLe j n
-within-decided j endless = yes tt
-
--- every repeat's bounds are in order
-unfoldable pub bounded : (e : Expr) → Answer (Bounded e)
-unfolding both if-so then within-decided
-bounded empty = found tt
-bounded (event c) = found tt
-bounded (choice l r) = both (bounded l) (bounded r)
-bounded (sequence l r) = both (bounded l) (bounded r)
-bounded (repeat b lower upper) =
-    then (λ h. (h .0, h .1 .0, h .1 .1)) (both (bounded b) (both (if-so (within-decided lower upper)) (if-so (within-decided 1 upper))))
+use Rattle.meaning.proofs.Answer.{Answer, unknown, if-so, then, both, provided, every}
+use Rattle.meaning.proofs.Bounds.{within-decided}
 
 -- the codes that are in two sets
 shared : {P Q : ℕ → Type 0} → Listed P → Listed Q → Listed (λ c. P c × Q c)
@@ -41,11 +26,12 @@ first-list (choice l r) = either (first-list l) (first-list r)
 first-list (sequence l r) = either (first-list l) (given (Bool-discrete (nullable l) true) (first-list r))
 first-list (repeat b lower upper) = first-list b
 
--- the part has an event to begin with
+-- the part has an event to begin with, or not
 starts-decided : (e : Expr) → Dec (Starts e)
 unfolding some first-list
 starts-decided e = some (first-list e)
 
+-- a repeat may stop or go on after a block, or not
 flexible-decided : (lower : ℕ) (upper : Upper) → Dec (Flexible lower upper)
 unfolding Dec·and within-decided
 flexible-decided lower upper = Dec·and (within-decided _ upper) (within-decided _ upper)
@@ -145,6 +131,7 @@ named-discrete v w =
 abbrev pub NotBelow : ℕ → ℕ → ℕ → Named → Type 0
 NotBelow i k c w = (i ≤ w .0) × (w .0 ≡ i → k ≤ w .1) × (w .0 ≡ i → w .1 ≡ k → c ≤ w .2)
 
+-- it is found not to be
 not-below : (i k c : ℕ) (w : Named) → Answer (NotBelow i k c w)
 unfolding then both provided if-so decLe ℕ-discrete
 not-below i k c w =

@@ -20,7 +20,7 @@ use Rattle.meaning.proofs.Bench.{Says, admitted, recorded, decide, b2, 
 abbrev pub Share : (ℕ → Type 0) → (ℕ → Type 0) → Type 0
 Share P Q = (c : ℕ) × P c × Q c
 
--- what shares no code with anything: the empty set
+-- a set without a code shares none
 nothing-shared : {P Q : ℕ → Type 0} → ((c : ℕ) → ¬ P c) → ¬ Share P Q
 nothing-shared n h = n (h .0) (h .1)
 
@@ -32,33 +32,41 @@ optional c = repeat (event c) 0 (upto 1)
 abbrev pub twice : Expr
 twice = repeat (event 0) 2 (upto 2)
 
--- ours: after of c{0,1} and after of a{2,2} have no code
+-- after of c{0,1} has no code
 no-after-optional : (d c : ℕ) → ¬ After (optional d) c
 no-after-optional d c = ⊎-elim (λ h. h) (λ h. let l = h .0 .0 in omega arith)
 
+-- after of a{2,2} has no code
 no-after-twice : (c : ℕ) → ¬ After twice c
 no-after-twice c = ⊎-elim (λ h. h) (λ h. let l = h .0 .1 in omega arith)
 
--- "flexible" read literally: some run is l words of the repeat and k words of its body, k below l times upper
-abbrev pub FlexibleRead : Expr → ℕ → ℕ → Type 0
-FlexibleRead b lower upper =
-    (w : List ℕ) × (l : ℕ) × (k : ℕ) × Power (Word (repeat b lower (upto upper))) l w × Power (Word b) k w × (k < l * upper)
+-- "flexible" read literally: in some word of the whole stands a run of l words of the repeat and of k words of its body, k below l times upper
+abbrev pub FlexibleRead : Expr → Expr → ℕ → ℕ → Type 0
+FlexibleRead e b lower upper =
+    (u : List ℕ)
+    × (w : List ℕ)
+    × (v : List ℕ)
+    × Word e (u ++ w ++ v)
+    × ((l : ℕ) × (k : ℕ) × Power (Word (repeat b lower (upto upper))) l w × Power (Word b) k w × (k < l * upper))
 
-abbrev pub AfterRead : Expr → ℕ → ℕ → ℕ → Type 0
-AfterRead b lower upper c = After b c ⊎ (FlexibleRead b lower upper × First b c)
+-- after of a repeat by it
+abbrev pub AfterRead : Expr → Expr → ℕ → ℕ → ℕ → Type 0
+AfterRead e b lower upper c = After b c ⊎ (FlexibleRead e b lower upper × First b c)
 
 -- a{0,1} is flexible through the empty word, and B2 would have a conflict of kind 4
-pub flexible-by-nothing : Share (AfterRead (event 0) 0 1) (First (optional 0)) × ¬ Share (After (optional 0)) (First (optional 0)) × StronglyDeterministic b2
+pub flexible-by-nothing : Share (AfterRead b2 (event 0) 0 1) (First (optional 0)) × ¬ Share (After (optional 0)) (First (optional 0)) × StronglyDeterministic b2
 unfolding decide
 flexible-by-nothing =
-    let empty-word : Power (Word (optional 0)) 1 [] = more 0 [] [] (times 0 (omega arith) (omega arith) none) none in
-    let flexible : FlexibleRead (event 0) 0 1 = ([], 1, 0, empty-word, none, omega arith) in
+    let empty-run : Word b2 [] = times 0 (omega arith) (omega arith) none in
+    let one-word : Power (Word (optional 0)) 1 [] = more 0 [] [] (times 0 (omega arith) (omega arith) none) none in
+    let flexible : FlexibleRead b2 (event 0) 0 1 = ([], [], [], empty-run, (1, 0, one-word, none, omega arith)) in
     ((0, inr (flexible, refl), refl), nothing-shared (no-after-optional 0), answered (decide b2 admitted) tt)
 
--- first of the right added whenever the right may be empty
+-- after of a sequence, with first of the right added whenever the right may be empty
 abbrev pub AfterAdded : Expr → Expr → ℕ → Type 0
 AfterAdded l r c = After r c ⊎ (So (nullable r) × (After l c ⊎ First r c))
 
+-- where the left is empty, after has no code that after of the right has not
 no-after-empty : (r : Expr) → ((c : ℕ) → ¬ After r c) → (c : ℕ) → ¬ After (sequence empty r) c
 no-after-empty r n c = ⊎-elim (n c) (λ h. ⊎-elim (λ f. f) (λ f. f .0 .1) (h .1))
 
@@ -71,7 +79,7 @@ unfolding decide
 added-without-event =
     ((1, inr (refl, inr refl), inr (refl, refl)), nothing-shared (no-after-empty (optional 1) (no-after-optional 1)), answered (decide b9 admitted) tt)
 
--- a repeat that could stop after any block
+-- after of a repeat that could stop after any block
 abbrev pub AfterAny : Expr → Upper → ℕ → Type 0
 AfterAny b upper c = After b c ⊎ (Within 2 upper × First b c)
 
@@ -84,6 +92,7 @@ stopping-at-one = ((0, inr (omega arith, refl), refl), nothing-shared no-after-t
 pub data AnyBlock (P : List Item → Type 0) (r : ℕ) : List Item → Type 0 where
   any-block : (x : List Item) → P x → AnyBlock P r (opening r ∷ (x ++ (closing r ∷ [])))
 
+-- readings of a repeat by them
 abbrev pub ReadingCounted : Expr → ℕ → Upper → List Item → Type 0
 ReadingCounted b lower upper = Times (AnyBlock (Reading 0 b) (size b)) lower upper
 

@@ -16,22 +16,25 @@ use Rattle.meaning.proofs.Answer.{Answer, found, unknown, if-so, then, 
 use Rattle.meaning.proofs.Spots.{Move, Next, start}
 use Rattle.meaning.proofs.Search.{moves-list, word-decided, begins-decided, begins-way}
 
--- a run that begins a word: so does what it begins with
+-- what a run that begins a word begins with begins one too
 begins-shorter : (e : Expr) (u v : List ℕ) → Begins e (u ++ v) → Begins e u
 begins-shorter e u v k = (v ++ k .0, subst (Word e) (append-assoc u v (k .0)) (k .1))
 
+-- so do its first events
 begins-take : (e : Expr) (run : List ℕ) (m n : ℕ) → m ≤ n → Begins e (take n run) → Begins e (take m run)
 begins-take e run m n h k =
     let whole = sym (take-append-drop m (take n run)) in
     subst (Begins e) (take-take m n run h) (begins-shorter e (take m (take n run)) (drop m (take n run)) (subst (Begins e) whole k))
 
--- no more events are taken
+-- no more than t events of the run begin a word
 abbrev pub Longest : Expr → List ℕ → ℕ → Type 0
 Longest e run t = (n : ℕ) → n ≤ length run → Begins e (take n run) → n ≤ t
 
+-- all events are taken
 pub all-taken : (e : Expr) (run : List ℕ) (t : ℕ) → length run ≤ t → Longest e run t
 all-taken e run t h n l k = omega arith
 
+-- the event after the first t does not continue them
 pub no-further : (e : Expr) (run : List ℕ) (t : ℕ) → ¬ Begins e (take (suc t) run) → Longest e run t
 no-further e run t stuck n l k = go (decLe n t)
   where
@@ -39,11 +42,13 @@ no-further e run t stuck n l k = go (decLe n t)
     go (yes h) = h
     go (no h) = absurd (stuck (begins-take e run (suc t) n (omega arith) k))
 
+-- either of the two is found
 longest : (e : Expr) (run : List ℕ) (t : ℕ) → Dec (length run ≤ t) → Dec (Begins e (take (suc t) run)) → Answer (Longest e run t)
 longest e run t (yes h) k = found (all-taken e run t h)
 longest e run t (no h) (yes k) = unknown
 longest e run t (no h) (no k) = found (no-further e run t k)
 
+-- t events are taken
 takes : (e : Expr) → Bounded e → (run : List ℕ) (t : ℕ) → Answer (Takes e [] run t)
 unfolding then both if-so decLe begins-decided longest
 takes e h run t =
@@ -53,6 +58,7 @@ takes e h run t =
     (if-so (decLe t (length run)))
     (both (if-so (begins-decided e h (take t run))) (longest e run t (decLe (length run) t) (begins-decided e h (take (suc t) run)))))
 
+-- the run stands so
 verdict : (e : Expr) → Bounded e → (run : List ℕ) (t : ℕ) (v : Verdict) → Answer (VerdictOf e [] run t v)
 unfolding then both if-so ℕ-discrete decLt word-decided Dec·not
 verdict e h run t Complete = then (λ k. complete (k .0) (k .1)) (both (if-so (ℕ-discrete t (length run))) (if-so (word-decided e h run)))
@@ -71,6 +77,7 @@ never-broken e h n k c =
     let stuck : ¬ Begins e (c ∷ []) = λ b. let g = begins-way e h (c ∷ []) b in n (g .1 .0) (g .1 .1 .0) in
     (record { within = omega arith; continues = k; longest = no-further e (c ∷ []) 0 stuck }, broken (omega arith))
 
+-- any event is broken, 0 taken
 unfoldable pub never : (e : Expr) → Bounded e → Answer ((c : ℕ) → Takes e [] (c ∷ []) 0 × VerdictOf e [] (c ∷ []) 0 Broken)
 unfolding then both if-so every moves-list begins-decided
 never e h = then (λ k. never-broken e h (k .0) (k .1)) (both (every {Q = λ v. ⊥} (moves-list e start) (λ v. unknown)) (if-so (begins-decided e h [])))

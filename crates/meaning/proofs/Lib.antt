@@ -27,6 +27,7 @@ pub mod States
 pub mod Continue
 pub mod Listed
 pub mod Answer
+pub mod Bounds
 pub mod ConflictList
 pub mod Spots
 pub mod Search

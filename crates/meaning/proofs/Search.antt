@@ -12,13 +12,13 @@ use Rattle.meaning.specs.Word.{Word, Begins}
 use Rattle.meaning.specs.Reading.{Item, opening, closing, Reading, codes, upTo}
 use Rattle.meaning.specs.State.{State, stateOf, Reaches, reaches}
 use Rattle.meaning.proofs.Listed.{Listed, nothing, only, either, kept, same, given, each, mapped, some, decided}
-use Rattle.meaning.proofs.ConflictList.{within-decided}
+use Rattle.meaning.proofs.Bounds.{within-decided}
 use Rattle.meaning.proofs.Place.{Place, codeOf, CanStart, opens, CanEnd, closes, Step}
 use Rattle.meaning.proofs.Items.{codes-append, codes-upTo}
 use Rattle.meaning.proofs.WordReading.{word-iff-reading}
 use Rattle.meaning.proofs.Spots.{Spot, start, behind, Move, Next, CanStop, last, last-no-event, onward-stop, onward-last, some-onward, Arrival, onto, Way, way-codes, way-upTo, way-onward, cut}
 
--- a reading of the part may end with the place
+-- a reading of the part may end with the place, or not
 end-decided : (e : Expr) (p : Place e) → Dec (CanEnd e p)
 unfolding Dec·and decLe
 end-decided empty p = no (λ c. c)
@@ -37,12 +37,13 @@ module _ {A B C : Type 0} where
   abbrev pub on-right : B × C → (A ⊎ B) × C
   on-right w = (inr (w .0), w .1)
 
+  -- a move is within one of the two
   pub side-of : (R : (A ⊎ B) × C → Type 0) (s : A ⊎ B) (c : C) → R (s, c)
       → ((v : A × C) × R (on-left v) × _≡_ {A = (A ⊎ B) × C} (s, c) (on-left v)) ⊎ ((v : B × C) × R (on-right v) × _≡_ {A = (A ⊎ B) × C} (s, c) (on-right v))
   side-of R (inl a) c r = inl ((a, c), r, refl)
   side-of R (inr b) c r = inr ((b, c), r, refl)
 
-  -- moves within either
+  -- the moves within either
   sides : {R : (A ⊎ B) × C → Type 0} → Listed (λ w. R (on-left w)) → Listed (λ w. R (on-right w)) → Listed R
   unfolding same either mapped
   sides {R} l m =
@@ -78,6 +79,7 @@ start-list s (repeat b lower upper) =
 abbrev Across : ℕ → (l r : Expr) → Place l → Move r → Type 0
 Across s l r p v = Step s (sequence l r) (inl p) (inr (v .0)) (v .1)
 
+-- those moves, as a list
 across-list : (s : ℕ) (l r : Expr) (p : Place l) → Listed (Across s l r p)
 unfolding same given mapped end-decided start-list
 across-list s l r p =
@@ -99,6 +101,7 @@ Again s b lower upper p v =
     × Within (suc (v .0 .1)) upper
     × (v .1 ≡ closes s b (p .0) ++ (closing (s + size b) ∷ opening (s + size b) ∷ opens s b (v .0 .0)))
 
+-- those moves, as a list
 again-list : (s : ℕ) (b : Expr) (lower : ℕ) (upper : Upper) (p : Place b × ℕ) → Listed (Again s b lower upper p)
 unfolding same given mapped end-decided within-decided start-list Dec·and
 again-list s b lower upper p =
@@ -136,7 +139,7 @@ unfolding start-list next-list
 moves-list e start = start-list 0 e
 moves-list e (behind p) = next-list 0 e p
 
--- a reading may stop at the spot
+-- a reading may stop at the spot, or not
 stop-decided : (e : Expr) (k : Spot e) → Dec (CanStop e k)
 unfolding end-decided
 stop-decided e start = Bool-discrete (nullable e) true
@@ -148,7 +151,7 @@ unfolding only kept each mapped moves-list ℕ-discrete
 ways e k [] = only (k, [])
 ways e k (c ∷ u) = each (kept (moves-list e k) (λ v. ℕ-discrete (codeOf e (v .0)) c)) (λ v. mapped (onto e v) (ways e (behind (v .0)) u))
 
--- the readings with the codes of a run
+-- a way to where a reading may stop is a reading with the run's codes
 pub reading-way : (e : Expr) → Bounded e → (u : List ℕ) (w : Arrival e) → Way e start u w → CanStop e (w .0)
     → Reading 0 e (w .1 ++ last e (w .0)) × (codes (w .1 ++ last e (w .0)) ≡ u)
 reading-way e h u w g c =
@@ -157,6 +160,7 @@ reading-way e h u w g c =
     let none = last-no-event e (w .0) in
     (t .1 (last e (w .0)) (onward-stop e h (w .0) (t .0) c), codes-append (w .1) (last e (w .0)) ∙ (λ i. run i ++ none i) ∙ append-nil u)
 
+-- every reading with the run's codes is such a way
 pub way-reading : (e : Expr) → Bounded e → (u : List ℕ) (x : List Item) → Reading 0 e x → codes x ≡ u
     → (w : Arrival e) × (Way e start u w × CanStop e (w .0)) × (x ≡ w .1 ++ last e (w .0))
 way-reading e h u x r c =
@@ -164,6 +168,7 @@ way-reading e h u x r c =
     let z = onward-last e h (t .to .0) (t .rest) (t .onward) (t .left) in
     (t .to, (t .way, z .0), t .whole ∙ ap {B = List Item} (λ y. t .to .1 ++ y) (z .1))
 
+-- the readings with the codes of a run
 unfoldable pub reading-list : (e : Expr) → Bounded e → (u : List ℕ) → Listed (λ x. Reading 0 e x × (codes x ≡ u))
 unfolding same mapped kept ways stop-decided
 reading-list e h u =
@@ -172,7 +177,7 @@ reading-list e h u =
     (λ x t. subst (λ y. Reading 0 e y × (codes y ≡ u)) (sym (t .2)) (reading-way e h u (t .0) (t .1 .0) (t .1 .1)))
     (λ x t. way-reading e h u x (t .0) (t .1))
 
--- whether a run is a word
+-- a run is a word, or not
 unfoldable pub word-decided : (e : Expr) → Bounded e → (u : List ℕ) → Dec (Word e u)
 unfolding decided some reading-list
 word-decided e h u =
@@ -181,7 +186,7 @@ word-decided e h u =
     (λ k. let t = word-iff-reading 0 e h u .0 k in (t .0, (t .1, t .2)))
     (some (reading-list e h u))
 
--- a run begins a word exactly if it has a way
+-- a run that has a way begins a word
 pub way-begins : (e : Expr) → Bounded e → (u : List ℕ) → (w : Arrival e) × Way e start u w → Begins e u
 way-begins e h u g =
     let w = g .0 in
@@ -191,17 +196,19 @@ way-begins e h u g =
     let both = codes-append (w .1) (y .0) ∙ (λ i. run i ++ codes (y .0)) in
     (codes (y .0), word-iff-reading 0 e h (u ++ codes (y .0)) .1 (w .1 ++ y .0, t .1 (y .0) (y .1), both))
 
+-- a run that begins a word has a way
 pub begins-way : (e : Expr) → Bounded e → (u : List ℕ) → Begins e u → (w : Arrival e) × Way e start u w
 begins-way e h u k =
     let x = word-iff-reading 0 e h (u ++ k .0) .0 (k .1) in
     let t = cut e h start u (k .0) (x .0) (x .1) (x .2) in
     (t .to, t .way)
 
+-- a run begins a word, or not
 unfoldable pub begins-decided : (e : Expr) → Bounded e → (u : List ℕ) → Dec (Begins e u)
 unfolding decided some ways
 begins-decided e h u = decided (way-begins e h u) (begins-way e h u) (some (ways e start u))
 
--- the states that a run reaches
+-- a run that has a way reaches the state after the items on it
 pub way-reaches : (e : Expr) → Bounded e → (u : List ℕ) (w : Arrival e) → Way e start u w → Reaches e u (stateOf e (w .1))
 way-reaches e h u w g =
     let t = way-onward e h start tt u w g in
@@ -210,6 +217,7 @@ way-reaches e h u w g =
     let run = ap codes there ∙ way-codes e start u w g in
     subst (λ (x : List Item). Reaches e u (stateOf e x)) there (reaches (w .1 ++ y .0) (t .1 (y .0) (y .1)) run)
 
+-- every state that a run reaches is the state after the items on a way
 pub reaches-way : (e : Expr) → Bounded e → (u : List ℕ) (z : State) → Reaches e u z → (w : Arrival e) × Way e start u w × (z ≡ stateOf e (w .1))
 reaches-way e h u z (reaches x r c) =
     let all = codes x in
@@ -220,6 +228,7 @@ reaches-way e h u z (reaches x r c) =
     let there = ap (λ (y : List Item). upTo y n) (t .whole) ∙ way-upTo e start u (t .to) (t .way) (t .rest) in
     (t .to, t .way, ap (stateOf e) there)
 
+-- the states that a run reaches
 unfoldable pub state-list : (e : Expr) → Bounded e → (u : List ℕ) → Listed (Reaches e u)
 unfolding same mapped ways
 state-list e h u =

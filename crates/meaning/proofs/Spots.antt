@@ -23,6 +23,7 @@ pub data Spot (e : Expr) : Type 0 where
 abbrev pub Move : Expr → Type 0
 Move e = Place e × List Item
 
+-- the move can come next
 abbrev pub Next : (e : Expr) → Spot e → Move e → Type 0
 Next e start v = CanStart e (v .0) × (v .1 ≡ opens 0 e (v .0))
 Next e (behind p) v = Step 0 e p (v .0) (v .1)
@@ -32,7 +33,7 @@ abbrev pub CanStop : (e : Expr) → Spot e → Type 0
 CanStop e start = So (nullable e)
 CanStop e (behind p) = CanEnd e p
 
--- with these closings
+-- the closings from there to the end
 abbrev pub last : (e : Expr) → Spot e → List Item
 last e start = []
 last e (behind p) = closes 0 e p
@@ -52,6 +53,7 @@ pub data Split (e : Expr) (k : Spot e) : List Item → Type 0 where
   stops : CanStop e k → Split e k (last e k)
   moves : (v : Move e) (y : List Item) → Next e k v → Rest 0 e (v .0) y → Split e k (v .1 ++ (itemOf 0 e (v .0) ∷ y))
 
+-- from the start, and from behind an event
 split-start : (e : Expr) (x : List Item) → Begun 0 e x → Split e start x
 split-start e x (nothing n) = stops n
 split-start e x (first q y c t) = moves (q, opens 0 e q) y (c, refl) t
@@ -60,34 +62,39 @@ split-behind : (e : Expr) (p : Place e) (x : List Item) → Goes 0 e p x → Spl
 split-behind e p x (ends c) = stops c
 split-behind e p x (steps q m y g t) = moves (q, m) y g t
 
+-- what completes a reading splits so
 pub onward-split : (e : Expr) → Bounded e → (k : Spot e) (y : List Item) → Onward e k y → Split e k y
 onward-split e h start y r = split-start e y (reading-begun 0 e h y r)
 onward-split e h (behind p) y r = split-behind e p y (rest-goes 0 e h p y r)
 
--- from a safe spot: the other way
+-- where a reading may stop, its closings complete it
 pub onward-stop : (e : Expr) → Bounded e → (k : Spot e) → Safe e k → CanStop e k → Onward e k (last e k)
 onward-stop e h start s c = begun-reading 0 e h [] (nothing c)
 onward-stop e h (behind p) s c = goes-rest 0 e h p s (closes 0 e p) (ends c)
 
+-- a move and what completes a reading from there complete it
 onward-move : (e : Expr) → Bounded e → (k : Spot e) → Safe e k → (v : Move e) (y : List Item) → Next e k v → Rest 0 e (v .0) y
     → Onward e k (v .1 ++ (itemOf 0 e (v .0) ∷ y))
 onward-move e h start s v y n t =
     subst (λ m. Reading 0 e (m ++ (itemOf 0 e (v .0) ∷ y))) (sym (n .1)) (begun-reading 0 e h (opens 0 e (v .0) ++ (itemOf 0 e (v .0) ∷ y)) (first (v .0) y (n .0) t))
 onward-move e h (behind p) s v y n t = goes-rest 0 e h p s (v .1 ++ (itemOf 0 e (v .0) ∷ y)) (steps (v .0) (v .1) y n t)
 
+-- something completes a reading from a safe spot
 pub some-onward : (e : Expr) → Bounded e → (k : Spot e) → Safe e k → (y : List Item) × Onward e k y
 some-onward e h start s = some-reading 0 e h
 some-onward e h (behind p) s = some-rest 0 e h p s
 
+-- moves lead to sound places
 move-safe : (e : Expr) → Bounded e → (k : Spot e) → Safe e k → (v : Move e) → Next e k v → Sound e (v .0)
 move-safe e h start s v n = start-sound e h (v .0) (n .0)
 move-safe e h (behind p) s v n = step-sound 0 e h p (v .0) (v .1) s n
 
--- no event stands among the marks, nor among the closings
+-- no event stands among the marks of a move
 move-no-event : (e : Expr) (k : Spot e) (v : Move e) → Next e k v → codes (v .1) ≡ []
 move-no-event e start v n = ap codes (n .1) ∙ opens-no-event 0 e (v .0)
 move-no-event e (behind p) v n = step-no-event 0 e p (v .0) (v .1) n
 
+-- nor among the last closings
 pub last-no-event : (e : Expr) (k : Spot e) → codes (last e k) ≡ []
 last-no-event e start = refl
 last-no-event e (behind p) = closes-no-event 0 e p
@@ -175,6 +182,7 @@ cut-back {e} {k} v n t =
       left = t .left;
     }
 
+-- a reading can be cut where a run ends that its codes begin with
 pub cut : (e : Expr) → Bounded e → (k : Spot e) (u r : List ℕ) (y : List Item) → Onward e k y → codes y ≡ u ++ r → Cut e k u r y
 cut e h k [] r y o c = record { to = (k, []); way = refl; rest = y; onward = o; whole = refl; left = c }
 cut e h k (c ∷ u) r y o a = go (λ q. cut e h (behind q) u r) y a (onward-split e h k y o)
