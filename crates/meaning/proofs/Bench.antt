@@ -173,9 +173,8 @@ record-is : (e : Expr) → Bounded e → (u numbers : List ℕ) → Answer (Says
 unfolding if-so then both equal every some reading-list
 record-is e h u numbers =
     let readings = reading-list e h u in
-    then
-    (λ k. ((k .0 .0, k .0 .1 .0, k .0 .1 .1), λ x r c. k .1 x (r, c)))
-    (both (if-so (some readings)) (every readings (λ x. equal (map itemNumber x) numbers)))
+    let all = both (if-so (some readings)) (every readings (λ x. equal (map itemNumber x) numbers)) in
+    then (λ k. ((k .0 .0, k .0 .1 .0, k .0 .1 .1), λ x r c. k .1 x (r, c))) all
 
 -- the state is the one claimed
 same-state : (z : State) (n : ℕ) (counts : List ℕ) → Answer (z ≡ record { node = n; counts = counts })
@@ -187,9 +186,8 @@ state-is : (e : Expr) → Bounded e → (u : List ℕ) (n : ℕ) (counts : List 
 unfolding if-so then both every some state-list same-state
 state-is e h u n counts =
     let states = state-list e h u in
-    then
-    (λ k z. (k .1 z, λ p. subst (Reaches e u) (k .1 (k .0 .0) (k .0 .1) ∙ sym p) (k .0 .1)))
-    (both (if-so (some states)) (every states (λ z. same-state z n counts)))
+    let all = both (if-so (some states)) (every states (λ z. same-state z n counts)) in
+    then (λ k z. (k .1 z, λ p. subst (Reaches e u) (k .1 (k .0 .0) (k .0 .1) ∙ sym p) (k .0 .1))) all
 
 -- a claim is found by computing
 unfoldable pub decide : (e : Expr) (k : Claim) → Answer (Says e k)

@@ -8,7 +8,7 @@ use Rattle.meaning.specs.Expr.{Expr, empty, event, choice, sequence, rep
 use Rattle.meaning.specs.Normal.{nullable, low}
 use Rattle.meaning.specs.Sets.{First, Starts, Flexible, After}
 use Rattle.meaning.specs.Conflict.{Conflict, ConflictAt, LowestConflict}
-use Rattle.meaning.proofs.Listed.{Listed, nothing, only, either, kept, same, given, mapped, some, holds, decided}
+use Rattle.meaning.proofs.Listed.{Listed, nothing, only, either, kept, same, given, image, some, holds, decided}
 use Rattle.meaning.proofs.Answer.{Answer, unknown, if-so, then, both, provided, every}
 use Rattle.meaning.proofs.Bounds.{within-decided}
 
@@ -52,31 +52,28 @@ Clash e w = Conflict e (w .0) (w .1)
 
 -- codes that a conflict of one kind shares
 of-kind : {P : ℕ → Type 0} (k : ℕ) → Listed P → Listed (λ (w : ℕ × ℕ). (w .0 ≡ k) × P (w .1))
-unfolding same mapped
-of-kind {P} k l =
-    same
-    (mapped (λ c. (k, c)) l)
-    (λ w h. (ap (λ (v : ℕ × ℕ). v .0) (h .2), subst P (sym (ap (λ (v : ℕ × ℕ). v .1) (h .2))) (h .1)))
-    (λ w h. let e = h .0 in (w .1, h .1, λ i. (e i, w .1)))
+unfolding image
+of-kind k l = image (λ c. (k, c)) l (λ c h. (refl, h)) (λ w h. let e = h .0 in (w .1, h .1, λ i. (e i, w .1)))
+
+-- the same with two facts about the code, and with three
+of-kind-two : {P Q : ℕ → Type 0} (k : ℕ) → Listed (λ c. P c × Q c) → Listed (λ (w : ℕ × ℕ). (w .0 ≡ k) × P (w .1) × Q (w .1))
+unfolding same of-kind
+of-kind-two k l = same (of-kind k l) (λ w h. (h .0, h .1 .0, h .1 .1)) (λ w h. (h .0, (h .1, h .2)))
+
+of-kind-three : {B : Type 0} {P Q : ℕ → Type 0} (k : ℕ) → Listed (λ c. B × (P c × Q c)) → Listed (λ (w : ℕ × ℕ). (w .0 ≡ k) × B × P (w .1) × Q (w .1))
+unfolding same of-kind
+of-kind-three k l = same (of-kind k l) (λ w h. (h .0, h .1 .0, h .1 .1 .0, h .1 .1 .1)) (λ w h. (h .0, (h .1, (h .2, h .3))))
 
 -- the conflicts of a part's own node, as a list
 clash-list : (e : Expr) → Listed (Clash e)
-unfolding nothing either same given of-kind shared first-list after-list within-decided
+unfolding nothing either given of-kind-two of-kind-three shared first-list after-list within-decided
 clash-list empty = nothing (λ w f. f)
 clash-list (event d) = nothing (λ w f. f)
-clash-list (choice l r) = same (of-kind 1 (shared (first-list l) (first-list r))) (λ w h. (h .0, h .1 .0, h .1 .1)) (λ w h. (h .0, (h .1, h .2)))
+clash-list (choice l r) = of-kind-two 1 (shared (first-list l) (first-list r))
 clash-list (sequence l r) =
-    either
-    (same
-    (of-kind 2 (given (Bool-discrete (nullable l) true) (shared (first-list l) (first-list r))))
-    (λ w h. (h .0, h .1 .0, h .1 .1 .0, h .1 .1 .1))
-    (λ w h. (h .0, (h .1, (h .2, h .3)))))
-    (same (of-kind 3 (shared (after-list l) (first-list r))) (λ w h. (h .0, h .1 .0, h .1 .1)) (λ w h. (h .0, (h .1, h .2))))
-clash-list (repeat b lower upper) =
-    same
-    (of-kind 4 (given (within-decided _ upper) (shared (after-list b) (first-list b))))
-    (λ w h. (h .0, h .1 .0, h .1 .1 .0, h .1 .1 .1))
-    (λ w h. (h .0, (h .1, (h .2, h .3))))
+    let second = of-kind-three 2 (given (Bool-discrete (nullable l) true) (shared (first-list l) (first-list r))) in
+    either second (of-kind-two 3 (shared (after-list l) (first-list r)))
+clash-list (repeat b lower upper) = of-kind-three 4 (given (within-decided _ upper) (shared (after-list b) (first-list b)))
 
 -- a conflict by its node, kind and code
 abbrev pub Named : Type 0
@@ -88,17 +85,18 @@ ClashIn P w = (p : Expr) × P w p × Conflict p (w .1) (w .2)
 
 -- the conflicts of the whole's own node
 own-list : (s : ℕ) (e : Expr) → Listed (ClashIn (λ w. Whole s e (w .0)))
-unfolding same mapped clash-list
+unfolding image clash-list
 own-list s e =
-    same
-    (mapped (λ (w : ℕ × ℕ). (root s e, w .0, w .1)) (clash-list e))
-    (λ w h. let k = h .2 in (e, (ap (λ (v : Named). v .0) k, refl), subst (λ (v : Named). Conflict e (v .1) (v .2)) (sym k) (h .1)))
+    image
+    (λ (w : ℕ × ℕ). (root s e, w .0, w .1))
+    (clash-list e)
+    (λ w h. (e, (refl, refl), h))
     (λ w h. let k = h .1 .0 in ((w .1, w .2), subst (λ p. Conflict p (w .1) (w .2)) (h .1 .1) (h .2), λ i. (k i, w .1, w .2)))
 
 -- the conflicts in parts of the one sort or of the other
 part-list : {P Q : Named → Expr → Type 0} → Listed (ClashIn P) → Listed (ClashIn Q) → Listed (ClashIn (λ w p. P w p ⊎ Q w p))
 unfolding same either
-part-list {P} {Q} l m =
+part-list l m =
     same
     (either l m)
     (λ w. ⊎-elim (λ h. (h .0, inl (h .1), h .2)) (λ h. (h .0, inr (h .1), h .2)))
@@ -122,10 +120,8 @@ no-conflict e = then (λ h i k c. h (i, k, c)) (every {Q = λ w. ⊥} (conflict-
 named-discrete : Discrete Named
 unfolding decided Dec·and ℕ-discrete
 named-discrete v w =
-    decided
-    (λ h i. (h .0 i, h .1 .0 i, h .1 .1 i))
-    (λ e. (ap (λ (u : Named). u .0) e, (ap (λ (u : Named). u .1) e, ap (λ (u : Named). u .2) e)))
-    (Dec·and (ℕ-discrete (v .0) (w .0)) (Dec·and (ℕ-discrete (v .1) (w .1)) (ℕ-discrete (v .2) (w .2))))
+    let alike = Dec·and (ℕ-discrete (v .0) (w .0)) (Dec·and (ℕ-discrete (v .1) (w .1)) (ℕ-discrete (v .2) (w .2))) in
+    decided (λ h i. (h .0 i, h .1 .0 i, h .1 .1 i)) (λ e. (ap (λ (u : Named). u .0) e, (ap (λ (u : Named). u .1) e, ap (λ (u : Named). u .2) e))) alike
 
 -- a conflict is not below the one named
 abbrev pub NotBelow : ℕ → ℕ → ℕ → Named → Type 0
@@ -135,13 +131,10 @@ NotBelow i k c w = (i ≤ w .0) × (w .0 ≡ i → k ≤ w .1) × (w .0 ≡ i �
 not-below : (i k c : ℕ) (w : Named) → Answer (NotBelow i k c w)
 unfolding then both provided if-so decLe ℕ-discrete
 not-below i k c w =
-    then
-    (λ h. (h .0, h .1 .0, h .1 .1))
-    (both
-    (if-so (decLe i (w .0)))
-    (both
-    (provided (ℕ-discrete (w .0) i) (if-so (decLe k (w .1))))
-    (provided (ℕ-discrete (w .0) i) (provided (ℕ-discrete (w .1) k) (if-so (decLe c (w .2)))))))
+    let node = if-so (decLe i (w .0)) in
+    let kind = provided (ℕ-discrete (w .0) i) (if-so (decLe k (w .1))) in
+    let code = provided (ℕ-discrete (w .0) i) (provided (ℕ-discrete (w .1) k) (if-so (decLe c (w .2)))) in
+    then (λ h. (h .0, h .1 .0, h .1 .1)) (both node (both kind code))
 
 -- a conflict that none is below is the lowest
 pub lowest-of : (e : Expr) (i k c : ℕ) → ConflictAt 0 e i k c → ((w : Named) → ConflictAt 0 e (w .0) (w .1) (w .2) → NotBelow i k c w)
@@ -158,6 +151,5 @@ lowest-of e i k c h n =
 unfoldable pub lowest : (e : Expr) (i k c : ℕ) → Answer (LowestConflict e i k c)
 unfolding then both if-so holds every conflict-list named-discrete not-below
 lowest e i k c =
-    then
-    (λ h. lowest-of e i k c (h .0) (h .1))
-    (both (if-so (holds named-discrete (conflict-list 0 e) (i, k, c))) (every (conflict-list 0 e) (not-below i k c)))
+    let there = if-so (holds named-discrete (conflict-list 0 e) (i, k, c)) in
+    then (λ h. lowest-of e i k c (h .0) (h .1)) (both there (every (conflict-list 0 e) (not-below i k c)))

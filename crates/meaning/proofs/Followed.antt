@@ -14,7 +14,8 @@ use Rattle.meaning.specs.Word.{Word, Begins}
 use Rattle.meaning.specs.Promises.{Takes, VerdictOf, complete, unfinished, broken}
 use Rattle.meaning.proofs.Answer.{Answer, found, unknown, if-so, then, both, every}
 use Rattle.meaning.proofs.Spots.{Move, Next, start}
-use Rattle.meaning.proofs.Search.{moves-list, word-decided, begins-decided, begins-way}
+use Rattle.meaning.proofs.Moves.{moves-list}
+use Rattle.meaning.proofs.Search.{word-decided, begins-decided, begins-way}
 
 -- what a run that begins a word begins with begins one too
 begins-shorter : (e : Expr) (u v : List ℕ) → Begins e (u ++ v) → Begins e u
@@ -52,11 +53,9 @@ longest e run t (no h) (no k) = found (no-further e run t k)
 takes : (e : Expr) → Bounded e → (run : List ℕ) (t : ℕ) → Answer (Takes e [] run t)
 unfolding then both if-so decLe begins-decided longest
 takes e h run t =
-    then
-    (λ k. record { within = k .0; continues = k .1 .0; longest = k .1 .1 })
-    (both
-    (if-so (decLe t (length run)))
-    (both (if-so (begins-decided e h (take t run))) (longest e run t (decLe (length run) t) (begins-decided e h (take (suc t) run)))))
+    let no-more = longest e run t (decLe (length run) t) (begins-decided e h (take (suc t) run)) in
+    let all = both (if-so (decLe t (length run))) (both (if-so (begins-decided e h (take t run))) no-more) in
+    then (λ k. record { within = k .0; continues = k .1 .0; longest = k .1 .1 }) all
 
 -- the run stands so
 verdict : (e : Expr) → Bounded e → (run : List ℕ) (t : ℕ) (v : Verdict) → Answer (VerdictOf e [] run t v)
@@ -80,4 +79,6 @@ never-broken e h n k c =
 -- any event is broken, 0 taken
 unfoldable pub never : (e : Expr) → Bounded e → Answer ((c : ℕ) → Takes e [] (c ∷ []) 0 × VerdictOf e [] (c ∷ []) 0 Broken)
 unfolding then both if-so every moves-list begins-decided
-never e h = then (λ k. never-broken e h (k .0) (k .1)) (both (every {Q = λ v. ⊥} (moves-list e start) (λ v. unknown)) (if-so (begins-decided e h [])))
+never e h =
+    let none = every {Q = λ v. ⊥} (moves-list e start) (λ v. unknown) in
+    then (λ k. never-broken e h (k .0) (k .1)) (both none (if-so (begins-decided e h [])))

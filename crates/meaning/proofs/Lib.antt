@@ -30,6 +30,7 @@ pub mod Answer
 pub mod Bounds
 pub mod ConflictList
 pub mod Spots
+pub mod Moves
 pub mod Search
 pub mod Followed
 pub mod Bench

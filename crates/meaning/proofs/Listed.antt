@@ -120,6 +120,12 @@ module _ {A B : Type 0} where
   unfolding each only
   mapped f l = each l (λ a. only (f a))
 
+  -- a property of exactly those values
+  unfoldable pub image : {P : A → Type 0} {Q : B → Type 0} (f : A → B) → Listed P → ((a : A) → P a → Q (f a)) → ((b : B) → Q b → (a : A) × P a × (b ≡ f a))
+      → Listed Q
+  unfolding same mapped
+  image {Q = Q} f l to from = same (mapped f l) (λ b h. subst Q (sym (h .2)) (to (h .0) (h .1))) from
+
 -- a fact decided by another that holds exactly if it does
 unfoldable pub decided : {A B : Type 0} → (A → B) → (B → A) → Dec A → Dec B
 decided f g (yes a) = yes (f a)
