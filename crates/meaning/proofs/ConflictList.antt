@@ -1,5 +1,5 @@
 -- First, after and the conflicts of an expression as lists: that there is no conflict, and which is the lowest, is found by computing.
-use mathlib.Core.Path.{_≡_, refl, sym, ap, subst}
+use mathlib.Core.Path.{_≡_, refl, ap, subst}
 use mathlib.Core.Logic.{_⊎_, inl, inr, ⊎-elim, Dec·and}
 use mathlib.Core.Bool.{Bool-discrete, true}
 use Prim.Native.Nat.{ℕ, _+_, _≤_}

@@ -3,7 +3,7 @@
 use mathlib.Core.Path.{_≡_, refl, sym, ap, subst, _∙_}
 use mathlib.Core.Bool.{So}
 use mathlib.Core.List.{List, [], _∷_, _++_, append-assoc, cons≢nil, head-eq-of-cons-eq, tail-eq-of-cons-eq}
-use Prim.Native.Nat.{ℕ, zero, suc}
+use Prim.Native.Nat.{ℕ, suc}
 use lib.ListN.{length}
 use Rattle.meaning.specs.Expr.{Expr, Bounded}
 use Rattle.meaning.specs.Normal.{nullable}
@@ -49,7 +49,7 @@ Safe e start = Unit {0}
 Safe e (behind p) = Sound e p
 
 -- what completes a reading: nothing but closings, or a next event and what completes it from there
-pub data Split (e : Expr) (k : Spot e) : List Item → Type 0 where
+data Split (e : Expr) (k : Spot e) : List Item → Type 0 where
   stops : CanStop e k → Split e k (last e k)
   moves : (v : Move e) (y : List Item) → Next e k v → Rest 0 e (v .0) y → Split e k (v .1 ++ (itemOf 0 e (v .0) ∷ y))
 
@@ -63,7 +63,7 @@ split-behind e p x (ends c) = stops c
 split-behind e p x (steps q m y g t) = moves (q, m) y g t
 
 -- what completes a reading splits so
-pub onward-split : (e : Expr) → Bounded e → (k : Spot e) (y : List Item) → Onward e k y → Split e k y
+onward-split : (e : Expr) → Bounded e → (k : Spot e) (y : List Item) → Onward e k y → Split e k y
 onward-split e h start y r = split-start e y (reading-begun 0 e h y r)
 onward-split e h (behind p) y r = split-behind e p y (rest-goes 0 e h p y r)
 
