@@ -25,3 +25,13 @@ pub mod Records
 pub mod Stays
 pub mod States
 pub mod Continue
+pub mod Listed
+pub mod Answer
+pub mod Bounds
+pub mod ConflictList
+pub mod Spots
+pub mod Moves
+pub mod Search
+pub mod Followed
+pub mod Bench
+pub mod Errors
