@@ -25,6 +25,16 @@ pub mod Records
 pub mod Stays
 pub mod States
 pub mod Continue
-pub mod Ways
+pub mod Listed
+pub mod Answer
+pub mod Bounds
+pub mod ConflictList
+pub mod Spots
+pub mod Moves
+pub mod Search
+pub mod Followed
+pub mod Bench
+pub mod Errors
 pub mod Directly
+pub mod Ways
 pub mod Loosened
