@@ -181,7 +181,7 @@ loosen-loose (repeat b lower upper) h = loosen-repeat lower upper (loosen-loose 
 
 -- ---- event nodes, entries and ways of the loosened part
 
--- no choice, sequence or repeat is an event
+-- no other kind of part is an event
 no-whole : (s z i c : ℕ) (e d : Expr) → ¬ IsEvent e → ¬ IsEvent d → Whole z e i (event c) ↔ Whole s d i (event c)
 no-whole s z i c e d f g = (λ w. absurd (f (subst IsEvent (w .1) tt)), λ w. absurd (g (subst IsEvent (w .1) tt)))
 
