@@ -3,14 +3,11 @@
 A procedure is a tree: ("event", code), ("choice", left, right), ("sequence", left, right) or
 ("repeat", body, lower, upper); upper is None for no bound. All are strongly deterministic, so that the
 record of a run is found without going back.
-
-    procedures.py FOLDER    writes NAME.seqp, NAME.run and NAME.record of each into the folder
 """
 import itertools
 import struct
 import sys
 from functools import reduce
-from pathlib import Path
 
 # A chain of 512 nodes is as deep as it has events.
 sys.setrecursionlimit(10000)
@@ -100,6 +97,10 @@ GROWING = {f"{shape}{nodes}": shaped(shape, nodes) for shape in SHAPES for nodes
 ALL = {**NAMED, **GROWING}
 
 
+class NoWord(Exception):
+    """A run is no word of the procedure."""
+
+
 class Laid:
     """A tree laid out in postfix order: the node records, and for each part its root, empty word and first."""
 
@@ -126,18 +127,26 @@ class Laid:
     def part(self, kind, code, children, fields, empty, first):
         node = len(self.records)
         self.records.append(struct.pack("<BBHHH", KINDS[kind], code, *fields))
-        return {"kind": kind, "node": node, "children": children, "upper": fields[2], "empty": empty, "first": first}
+        return {"kind": kind, "node": node, "children": children, "lower": fields[1], "upper": fields[2],
+                "empty": empty, "first": first}
 
     def file(self):
         count = len(self.records)
         return b"".join(self.records) + struct.pack("<4sHHI", b"SEQP", count, 1, 12 + 8 * count)
 
     def record(self, run):
-        """The record of a run of whole blocks; it fails where the run is no word."""
+        """The record of a run that is a word."""
         items = []
         if read(self.root, run, 0, items) != len(run):
-            raise ValueError("the run is no word")
+            raise NoWord
         return struct.pack(f"<{len(items)}H", *items)
+
+    def is_word(self, run):
+        try:
+            self.record(run)
+        except NoWord:
+            return False
+        return True
 
     def first(self):
         return sum(1 << code for code in self.root["first"])
@@ -145,22 +154,31 @@ class Laid:
 
 def read(part, run, at, items):
     """Appends the items of a part that is read from a place of the run on, and gives the place behind it."""
-    if part["kind"] == "event":
-        if not begins(part, run, at):
-            raise ValueError(f"event {at} does not continue the run")
+    if not begins(part, run, at):
+        if not part["empty"]:
+            raise NoWord
+        return at
+    kind, children = part["kind"], part["children"]
+    if kind == "event":
         items.append(part["node"])
         return at + 1
-    if part["kind"] == "choice":
-        fitting = [child for child in part["children"] if begins(child, run, at)]
-        return read(fitting[0], run, at, items) if fitting else at
-    if part["kind"] == "sequence":
-        return read(part["children"][1], run, read(part["children"][0], run, at, items), items)
+    if kind == "choice":
+        return read(children[0] if begins(children[0], run, at) else children[1], run, at, items)
+    if kind == "sequence":
+        return read(children[1], run, read(children[0], run, at, items), items)
+    return read_blocks(part, run, at, items)
+
+
+def read_blocks(part, run, at, items):
     blocks, body = 0, part["children"][0]
-    while (part["upper"] == NO_BOUND or blocks < part["upper"]) and begins(body, run, at):
+    while blocks < part["upper"] and begins(body, run, at):
         items.append(part["node"] | OPENING)
         at = read(body, run, at, items)
         items.append(part["node"] | CLOSING)
-        blocks += 1
+        # So many blocks as a run has events are never counted where there is no bound.
+        blocks += part["upper"] != NO_BOUND or blocks < part["lower"]
+    if blocks < part["lower"] and not body["empty"]:
+        raise NoWord
     return at
 
 
@@ -168,15 +186,11 @@ def begins(part, run, at):
     return at < len(run) and run[at] in part["first"]
 
 
-def main():
-    folder = Path(sys.argv[1])
+def write_all(folder):
+    """Writes NAME.seqp, NAME.run and NAME.record of each procedure into the folder."""
     folder.mkdir(parents=True, exist_ok=True)
     for name, (tree, run) in ALL.items():
         laid = Laid(tree)
         (folder / f"{name}.seqp").write_bytes(laid.file())
         (folder / f"{name}.run").write_bytes(run)
         (folder / f"{name}.record").write_bytes(laid.record(run))
-
-
-if __name__ == "__main__":
-    main()
