@@ -1,9 +1,9 @@
 """Counts what each call of the library costs, beside libxml2, and holds it to the targets.
 
 Every figure is a number of x86-64 instructions, the difference of two runs; only the stack is in bytes. What
-a call gives is compared with what it must give, so that a call that does no work has no figure. A call
-that the archive does not have yet is not measured, and its rows say so. The exit status is 0 if no target is
-missed, 1 if one is or a call answers wrongly, 2 if nothing could be measured.
+a call gives is compared with what it must give: a wrong answer has no figure. A call that the archive does
+not have yet is not measured, and its rows say so. The exit status is 0 if no target is missed, 1 if one is or
+a call answers wrongly, 2 if nothing could be measured.
 
     bench.py [ARCHIVE]    an archive in place of the one that rt makes
 """
@@ -199,7 +199,7 @@ class Table:
             self.wrong += 1
             mine, verdict = None, f"FAILED: {reason}"
         if mine is not None and against:
-            ratio = f"{mine / against:.2f}"
+            ratio = f"{mine / against:.3f}"
         if mine is not None and against and target:
             verdict = self.judged(mine <= value_of(target) * against)
         say(line((what, name, figure(mine), figure(theirs), ratio, target or "", verdict)))
@@ -309,6 +309,6 @@ def main():
 if __name__ == "__main__":
     try:
         sys.exit(main())
-    except Failed as reason:
+    except (Failed, OSError) as reason:
         say(f"bench: {reason}")
         sys.exit(2)
