@@ -117,8 +117,8 @@ uint32_t seq_follow(const uint8_t *file, size_t file_len, uint8_t *state, size_t
 /*
  * Writes the record of a whole run, from its start, into the space lent.
  * Answers 0 to 7 and 9 to 11. *length is the record's length in bytes; the space beyond it stays as it
- * was, and on a refusal the whole space does. An item takes 2 bytes, and a run of one event inside 32
- * repeats has 65 items.
+ * was, and on a refusal the whole space does. Room for 130 bytes an event is always enough: no event lies
+ * in more than 32 repeats, and so none has more than 65 items.
  */
 uint32_t seq_write(const uint8_t *file, size_t file_len, const uint8_t *run, size_t run_len,
                    uint8_t *space, size_t space_len, uint64_t *length);
@@ -134,8 +134,9 @@ uint32_t seq_check(const uint8_t *file, size_t file_len, const uint8_t *record, 
 /*
  * Prompts the operator: the codes that can come next, as a set.
  * Answers 0 to 8. Bit c of *set is 1 exactly if code c can come next: at the start the codes that begin a
- * word, else those of the event nodes that can directly follow the node reached, where each repeat with an
- * upper bound of 2 or more is taken as if its count did not matter. The state is only read.
+ * word, else those of the event nodes that can directly follow the node reached, where a repeat whose upper
+ * bound is at least 2, or that has none, may end and go on after every block, whatever its count. The state
+ * is only read.
  */
 uint32_t seq_prompt(const uint8_t *file, size_t file_len, const uint8_t *state, size_t state_len,
                     uint64_t *set);
