@@ -175,7 +175,7 @@ def read_blocks(part, run, at, items):
         items.append(part["node"] | OPENING)
         at = read(body, run, at, items)
         items.append(part["node"] | CLOSING)
-        # So many blocks as a run has events are never counted where there is no bound.
+        # With no bound the count stops at the lower one: a long run must not reach the sign for no bound.
         blocks += part["upper"] != NO_BOUND or blocks < part["lower"]
     if blocks < part["lower"] and not body["empty"]:
         raise NoWord
