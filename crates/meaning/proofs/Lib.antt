@@ -1,3 +1,4 @@
 pub mod Place
 pub mod Digits
 pub mod CodeSets
+pub mod Files
