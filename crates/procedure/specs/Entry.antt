@@ -1,10 +1,14 @@
 -- Entries: a node as one number, its record's 8 bytes read little-endian. A model of our code, and no promise.
 use mathlib.Core.Path.{_≡_}
 use mathlib.Core.List.{List}
-use Prim.Native.Nat.{ℕ, _/_, _%_, _<_}
+use Prim.Native.Nat.{ℕ, _+_, _*_, _/_, _%_, _<_}
 use lib.ListN.{getD}
 use Rattle.meaning.specs.Node.{Node, node}
 use Rattle.meaning.specs.File.{nodeAt}
+
+-- a node as one number
+abbrev pub packed : Node → ℕ
+packed (node kind code x y z) = kind + 256 * code + 65536 * x + 4294967296 * y + 281474976710656 * z
 
 -- the node that an entry holds
 unfoldable pub unpacked : ℕ → Node
