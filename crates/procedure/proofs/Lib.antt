@@ -1,3 +1,5 @@
 -- The laws that belong to no one function.
+mod Deciding
 mod Entries
+mod Lines
 mod Trailer
