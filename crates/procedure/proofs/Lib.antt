@@ -2,4 +2,5 @@
 mod Deciding
 mod Entries
 mod Lines
+mod Orders
 mod Trailer
