@@ -1,4 +1,5 @@
 -- The laws that belong to no one function.
+mod Counting
 mod Deciding
 mod Entries
 mod Lines
