@@ -1,6 +1,6 @@
 // An entry is a node as one number: its record's 8 bytes read little-endian. Each function hands out one number of the node.
 ghost use mathlib.Core.Path.{_≡_};
-ghost use Rattle.procedure.specs.Entry.{unpacked, kindOf, codeOf, leftOf, rightOf, bodyOf, lowerOf, upperOf};
+ghost use Rattle.procedure.specs.Entry.{unpacked, kindOf, codeOf, leftOf, bodyOf, lowerOf, upperOf};
 
 // The kinds of nodes.
 pub const EMPTY: u8 = 0;
@@ -33,13 +33,6 @@ pub fn left_of(entry: u64) -> usize
     ensures { λ r. ⌜ r ≡ leftOf (unpacked entry) ⌝ }
 {
     (entry / 65536 % 65536) as usize
-}
-
-// What a choice or a sequence calls its right child.
-pub fn right_of(entry: u64) -> usize
-    ensures { λ r. ⌜ r ≡ rightOf (unpacked entry) ⌝ }
-{
-    (entry / 4294967296 % 65536) as usize
 }
 
 // The body of a repeat.
