@@ -18,7 +18,7 @@ pub enum Start {
 fn right_of(entry: u64) -> usize
     ensures { λ r. ⌜ r ≡ rightOf (unpacked entry) ⌝ }
 {
-    (entry / 4294967296 % 65536) as usize
+    (entry / entry::SECOND % entry::FIELD) as usize
 }
 
 fn wide(x: u16) -> usize

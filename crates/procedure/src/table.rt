@@ -13,7 +13,7 @@ const MOST_BOUND: u16 = 4096;
 fn no_fields(entry: u64) -> bool
     ensures { λ r. ⌜ Decides (NoFields (unpacked entry)) r ⌝ }
 {
-    if 65535 < entry {
+    if entry::FIRST <= entry {
         return false;
     }
     true

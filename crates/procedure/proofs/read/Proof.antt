@@ -6,9 +6,9 @@ use native.Mathlib.Omega.{arith}
 use borrow.Author.Needs.{needs}
 use Rattle.meaning.specs.Node.{InTable}
 use Rattle.meaning.specs.File.{Framed, Lettered, Measured, Sized, by-letters, by-measures, by-size}
-use Rattle.procedure.specs.Entry.{Tied, held}
+use Rattle.procedure.specs.Entry.{held}
 use Rattle.procedure.proofs.Deciding.{fails, holds}
-use Rattle.procedure.proofs.Openings.{off-table, opens, out-of-order, tested-whole, too-many}
+use Rattle.procedure.proofs.Openings.{filled, off-table, out-of-order, tested-whole, too-many}
 use Rattle.procedure.proofs.read.Statement.{statement}
 use Rattle.procedure.proofs.read.Tie as tie
 
@@ -122,14 +122,14 @@ returns-6 c =
     (tested-whole (o .before .lowest-out-of-order .ensures) (o .if5 .left))
     (c .before .repeat-over .result)
     (c .if6 .taken)
-    (c .before .repeat-over .ensures .1 .0 (c .if6 .taken))
+    (c .before .repeat-over .ensures .here (c .if6 .taken))
 
 returns-7 : tie.Need-returns-7
 returns-7 c =
     let o = c .before .before .before in
     let e = o .before .before .before in
     let m = e .before .before .before in
-    opens
+    filled
     (file m)
     (entries m)
     (n m)
@@ -138,7 +138,7 @@ returns-7 c =
     (m .fill .ensures)
     (kept e)
     (tested-whole (o .before .lowest-out-of-order .ensures) (o .if5 .left))
-    (c .before .repeat-over .ensures .1 .1 (omega arith))
+    (c .before .repeat-over .ensures .few (c .if6 .left))
 
 pub read-spec : {M : Type 1} → statement M
 read-spec =
