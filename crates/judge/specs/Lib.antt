@@ -1,0 +1,3 @@
+-- What the contracts of the judge cite.
+pub mod Lowest
+pub mod Sets
