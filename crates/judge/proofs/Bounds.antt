@@ -9,6 +9,7 @@ use borrow.Author.Tests.{eqb-true, le-leb, leb-true, lt-ltb, ltb-true}
 use lib.Dec.{eqb, leb, ltb}
 use Rattle.meaning.specs.Expr.{Upper, upto, endless, Within}
 use Rattle.meaning.specs.Node.{bound}
+use Rattle.meaning.specs.Normal.{low}
 use Rattle.meaning.specs.Sets.{Flexible}
 
 -- a number of blocks that fits 16 bits is within a bound that fits them exactly if it is at most the number that is written
@@ -33,3 +34,8 @@ stop-or-go a lower u h l =
 
     above : lower + 1 ≤ u → So (ltb lower u)
     above p = lt-ltb lower u (omega arith)
+
+-- the lower bound in normal form is at most the one that is written
+pub normal-at-most : (empties : Bool) (lower : ℕ) → low empties lower ≤ lower
+normal-at-most true lower = omega arith
+normal-at-most false lower = omega arith

@@ -74,7 +74,7 @@ OfTwo s l r e i k c = (p : Expr) × (Part s l i p ⊎ Part (s + size l) r i p �
 of-two : (s : ℕ) (l r e : Expr) → Same (Either (ConflictAt s l) (Either (ConflictAt (s + size l) r) (OwnAt (root s e) e))) (OfTwo s l r e)
 of-two s l r e i k c = (
   ⊎-elim (λ x. (x .0, inl (x .1), x .2))
-  (⊎-elim (λ x. (x .0, inr (inl (x .1)), x .2)) (λ x. (e, inr (inr (x .0, refl)), x .1))),
+      (⊎-elim (λ x. (x .0, inr (inl (x .1)), x .2)) (λ x. (e, inr (inr (x .0, refl)), x .1))),
   λ x. ⊎-elim (λ w. inl (x .0, w, x .2))
       (⊎-elim (λ w. inr (inl (x .0, w, x .2))) (λ w. inr (inr (whole-own s e i k c .0 (x .0, w, x .2))))) (x .1),
 )

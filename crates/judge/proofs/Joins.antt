@@ -1,7 +1,7 @@
 -- What is worked out of a node, from what was worked out of its children. Each law ends in what a combiner promises. Assumes nothing.
 use mathlib.Core.Bool.{Bool, So, _&&_, _||_}
 use mathlib.Core.Logic.{_↔_, _⊎_, inl, inr, ⊎-elim, Iff·trans, Iff·and}
-use mathlib.Core.Path.{_≡_, refl, sym, subst, _∙_}
+use mathlib.Core.Path.{_≡_, refl, sym, ap, subst, subst₂, _∙_}
 use Prim.Native.Nat.{ℕ, zero, suc, _+_}
 use native.Mathlib.Omega.{arith}
 use lib.Dec.{eqb}
@@ -36,24 +36,20 @@ choice-own n m h l r a b p q i k c = (
   λ x. (x .0 ∙ h, x .1 .0, (p c .1 (x .1 .1), q c .1 (x .1 .2))),
 )
 
-pub joins-choice : (i : ℕ) (l r : Sets) (first after : ℕ) (own : Found)
+pub joins-choice : (i : ℕ) (l r : Sets) (first after : ℕ) (own found : Found)
     → Holds first (λ c. Has (l .first) c ⊎ Has (r .first) c)
     → Holds after (λ c. Has (l .after) c ⊎ Has (r .after) c)
     → Names (SharedAt i 1 (l .first) (r .first)) own
-    → Joins choice i l r (record {
-      nullable = l .nullable || r .nullable;
-      first = first;
-      after = after;
-      conflict = orElse (l .conflict) (orElse (r .conflict) own);
-    })
+    → found ≡ orElse (l .conflict) (orElse (r .conflict) own)
+    → Joins choice i l r (record { nullable = l .nullable || r .nullable; first = first; after = after; conflict = found })
 unfolding Joins
-joins-choice i l r first after own f a n s p q x y h = record {
+joins-choice i l r first after own found f a n o s p q x y h = record {
   empties = cc;
   firsts = λ c. Iff·trans (f c) (iff-or (x .firsts c) (y .firsts c));
   afters = λ c. Iff·trans (a c) (iff-or (x .afters c) (y .afters c));
-  conflicts =
-    names-two s p q (choice p q) (l .conflict) (r .conflict) own refl (x .conflicts) (y .conflicts)
-    (names-same (choice-own (root s (choice p q)) i h p q (l .first) (r .first) (x .firsts) (y .firsts)) own n);
+  conflicts = rw o
+      (names-two s p q (choice p q) (l .conflict) (r .conflict) own refl (x .conflicts) (y .conflicts)
+      (names-same (choice-own (root s (choice p q)) i h p q (l .first) (r .first) (x .firsts) (y .firsts)) own n));
 }
 
 -- ---- a sequence
@@ -62,7 +58,7 @@ sequence-own : (n m : ℕ) → n ≡ m → (l r : Expr) (a b d passed : ℕ) →
     → Holds passed (λ c. So (nullable l) × First r c) → Same (Either (SharedAt m 2 a passed) (SharedAt m 3 d b)) (OwnAt n (sequence l r))
 sequence-own n m h l r a b d passed p q o w i k c = (
   ⊎-elim (λ x. (x .0 ∙ sym h, inl (x .1, w c .0 (x .2 .1) .0, p c .0 (x .2 .0), w c .0 (x .2 .1) .1)))
-  (λ x. (x .0 ∙ sym h, inr (x .1, o c .0 (x .2 .0), q c .0 (x .2 .1)))),
+      (λ x. (x .0 ∙ sym h, inr (x .1, o c .0 (x .2 .0), q c .0 (x .2 .1)))),
   λ x. ⊎-elim (λ y. inl (x .0 ∙ h, y .0, (p c .1 (y .2), w c .1 (y .1, y .3)))) (λ y. inr (x .0 ∙ h, y .0, (o c .1 (y .1), q c .1 (y .2)))) (x .1),
 )
 
@@ -70,7 +66,7 @@ sequence-own n m h l r a b d passed p q o w i k c = (
 kinds-ahead : (n a b d e : ℕ) → Ahead (SharedAt n 2 a b) (SharedAt n 3 d e)
 kinds-ahead n a b d e i k c j l f x y = inr (x .0 ∙ sym (y .0), let g = x .1 in let h = y .1 in omega arith)
 
-pub joins-sequence : (i : ℕ) (l r : Sets) (any : Bool) (passed follows ended last first after : ℕ) (two three : Found)
+pub joins-sequence : (i : ℕ) (l r : Sets) (any : Bool) (passed follows ended last first after : ℕ) (two three own found : Found)
     → Holds passed (λ c. So (l .nullable) × Has (r .first) c)
     → So any ↔ ((c : ℕ) × Has (l .first) c)
     → Holds follows (λ c. So any × Has (r .first) c)
@@ -80,14 +76,11 @@ pub joins-sequence : (i : ℕ) (l r : Sets) (any : Bool) (passed follows ended l
     → Holds ended (λ c. Has (l .after) c ⊎ Has follows c)
     → Holds last (λ c. So (r .nullable) × Has ended c)
     → Holds after (λ c. Has (r .after) c ⊎ Has last c)
-    → Joins sequence i l r (record {
-      nullable = l .nullable && r .nullable;
-      first = first;
-      after = after;
-      conflict = orElse (l .conflict) (orElse (r .conflict) (orElse two three));
-    })
+    → own ≡ orElse two three
+    → found ≡ orElse (l .conflict) (orElse (r .conflict) own)
+    → Joins sequence i l r (record { nullable = l .nullable && r .nullable; first = first; after = after; conflict = found })
 unfolding Joins
-joins-sequence i l r any passed follows ended last first after two three hp hany hf n2 n3 h1 he hl ha s p q x y h =
+joins-sequence i l r any passed follows ended last first after two three own found hp hany hf n2 n3 h1 he hl ha w o s p q x y h =
     let passes : Holds passed (λ c. So (nullable p) × First q c) = λ c. Iff·trans (hp c) (Iff·and (may-be-empty x) (y .firsts c)) in
     let starts : So any ↔ Starts p = (λ o. let z = hany .0 o in (z .0, x .firsts (z .0) .0 (z .1)), λ z. hany .1 (z .0, x .firsts (z .0) .1 (z .1))) in
     let comes : Holds follows (λ c. Starts p × First q c) = λ c. Iff·trans (hf c) (Iff·and starts (y .firsts c)) in
@@ -96,10 +89,10 @@ joins-sequence i l r any passed follows ended last first after two three hp hany
       empties = cc;
       firsts = λ c. Iff·trans (h1 c) (iff-or (x .firsts c) (passes c));
       afters = λ c. Iff·trans (ha c) (iff-or (y .afters c) (Iff·trans (hl c) (Iff·and (may-be-empty y) (ends c))));
-      conflicts =
-        names-two s p q (sequence p q) (l .conflict) (r .conflict) (orElse two three) refl (x .conflicts) (y .conflicts)
-        (names-same (sequence-own (root s (sequence p q)) i h p q (l .first) (r .first) (l .after) passed (x .firsts) (y .firsts) (x .afters) passes) (orElse two three)
-        (names-either (kinds-ahead i (l .first) passed (l .after) (r .first)) two three n2 n3));
+      conflicts = rw (o, w)
+          (names-two s p q (sequence p q) (l .conflict) (r .conflict) (orElse two three) refl (x .conflicts) (y .conflicts)
+          (names-same (sequence-own (root s (sequence p q)) i h p q (l .first) (r .first) (l .after) passed (x .firsts) (y .firsts) (x .afters) passes) (orElse two three)
+          (names-either (kinds-ahead i (l .first) passed (l .after) (r .first)) two three n2 n3)));
     }
 
 -- ---- a repeat
@@ -115,29 +108,30 @@ is-zero : (n : ℕ) → eqb n 0 ≡ isZero n
 is-zero zero = refl
 is-zero (suc n) = ne-eqb (suc n) 0 (λ e. omega arith)
 
-pub repeats : (i lower upper : ℕ) (b : Sets) (again flexible : Bool) (gated more after : ℕ) (own : Found)
+pub repeats : (i lower upper : ℕ) (b : Sets) (again flexible : Bool) (least gated more after : ℕ) (own found : Found)
     → So again ↔ Within 2 (bound upper)
-    → So flexible ↔ Flexible (low (b .nullable) lower) (bound upper)
+    → least ≡ low (b .nullable) lower
+    → So flexible ↔ Flexible least (bound upper)
     → Holds gated (λ c. So again × Has (b .first) c)
     → Names (SharedAt i 4 (b .after) gated) own
     → Holds more (λ c. So flexible × Has (b .first) c)
     → Holds after (λ c. Has (b .after) c ⊎ Has more c)
-    → Repeats i lower upper b (record {
-      nullable = eqb lower 0 || b .nullable;
-      first = b .first;
-      after = after;
-      conflict = orElse (b .conflict) own;
-    })
+    → found ≡ orElse (b .conflict) own
+    → Repeats i lower upper b (record { nullable = eqb lower 0 || b .nullable; first = b .first; after = after; conflict = found })
 unfolding Repeats
-repeats i lower upper b again flexible gated more after own hagain hflex hg n hm ha s e x h =
+repeats i lower upper b again flexible least gated more after own found hagain hleast hflex hg n hm ha o s e x h =
     let gates : Holds gated (λ c. Within 2 (bound upper) × First e c) = λ c. Iff·trans (hg c) (Iff·and hagain (x .firsts c)) in
     let flex : So flexible ↔ Flexible (low (nullable e) lower) (bound upper) =
-    subst (λ (v : Bool). So flexible ↔ Flexible (low v lower) (bound upper)) (x .empties) hflex in
+    subst (λ (n : ℕ). So flexible ↔ Flexible n (bound upper)) (hleast ∙ ap (λ (v : Bool). low v lower) (x .empties)) hflex in
     record {
       empties = cc (is-zero lower);
       firsts = x .firsts;
       afters = λ c. Iff·trans (ha c) (iff-or (x .afters c) (Iff·trans (hm c) (Iff·and flex (x .firsts c))));
-      conflicts =
-        names-one s e (repeat e lower (bound upper)) (b .conflict) own refl (x .conflicts)
-        (names-same (repeat-own (root s (repeat e lower (bound upper))) i h e lower (bound upper) (b .after) gated (x .afters) gates) own n);
+      conflicts = rw o
+          (names-one s e (repeat e lower (bound upper)) (b .conflict) own refl (x .conflicts)
+          (names-same (repeat-own (root s (repeat e lower (bound upper))) i h e lower (bound upper) (b .after) gated (x .afters) gates) own n));
     }
+
+-- the bounds, as they were read
+pub bounds-read : (i lo lower up upper : ℕ) (b x : Sets) → lo ≡ lower → up ≡ upper → Repeats i lo up b x → Repeats i lower upper b x
+bounds-read i lo lower up upper b x p q = subst₂ (λ (l u : ℕ). Repeats i l u b x) p q

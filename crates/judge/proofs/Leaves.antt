@@ -71,3 +71,7 @@ leaf-event n first after k f a = λ g i h s e p r. go g i h s e p r (sym (standi
     go g i h s (choice l q) p r m = absurd (omega arith)
     go g i h s (sequence l q) p r m = absurd (omega arith)
     go g i h s (repeat b lower upper) p r m = absurd (omega arith)
+
+pub leaf-at : (g : ℕ → Node) (i : ℕ) (x : Sets) → OfLeaf (g i) x → SetsAt g i x
+unfolding OfLeaf
+leaf-at g i x h = h g i refl

@@ -13,8 +13,11 @@ pub enum Found {
 
 // The kinds of conflicts.
 pub const CHOICE: u32 = 1;
+
 pub const EMPTY_LEFT: u32 = 2;
+
 pub const AFTER_LEFT: u32 = 3;
+
 pub const REPEAT: u32 = 4;
 
 // What is found first: `a`, where it is something, or else `b`.

@@ -132,7 +132,10 @@ fn repeat_sets(i: usize, node: u64, b: Sets) -> Sets
     Sets {
         nullable: (lower == 0) | b.nullable,
         first: b.first,
-        after: codes::union(b.after, only_if(flexible(normal_lower(b.nullable, lower), upper), b.first)),
+        after: codes::union(
+            b.after,
+            only_if(flexible(normal_lower(b.nullable, lower), upper), b.first),
+        ),
         conflict: conflict::or_else(body, own),
     }
 }

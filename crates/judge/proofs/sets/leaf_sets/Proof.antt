@@ -1,44 +1,53 @@
+-- `judge::sets::leaf_sets` meets its contract. Assumes nothing.
+use mathlib.Core.Logic.{_↔_}
+use mathlib.Core.Path.{_≡_, sym, subst, _∙_}
+use Prim.Native.Nat.{ℕ, _<_}
+use native.Mathlib.Omega.{arith}
 use borrow.Author.Needs.{needs}
+use Rattle.meaning.specs.Codes.{Has}
+use Rattle.procedure.specs.Entry.{codeOf, unpacked}
+use Rattle.judge.proofs.Leaves.{leaf-empty, leaf-event}
+use Rattle.judge.proofs.Standing.{table-code}
 use Rattle.judge.proofs.sets.leaf_sets.Statement.{statement}
 use Rattle.judge.proofs.sets.leaf_sets.Tie as tie
-use Rattle.judge.proofs.sets.leaf_sets.Reads as reads
-use Rattle.judge.proofs.sets.leaf_sets.Lts as lts
-use Rattle.codes.proofs.none.Reads as none-reads
-use Rattle.codes.proofs.one.Reads as one-reads
-use Rattle.procedure.proofs.entry.code_of.Reads as code-of-reads
-use Rattle.procedure.proofs.entry.kind_of.Reads as kind-of-reads
 
--- src/sets.rt:71:8
+-- a kind that is 0 or 1 and is not 0
+event-kind : {k : ℕ} → k < 2 → ¬ (k ≡ 0) → k ≡ 1
+event-kind l n = omega arith
+
 kind-of-requires : tie.Need-kind-of-requires
 kind-of-requires c κs = search needs
 
--- src/sets.rt:74:20
 none-requires : tie.Need-none-requires
 none-requires c κs = search needs
 
--- src/sets.rt:75:20
 none-requires-2 : tie.Need-none-requires-2
 none-requires-2 c κs = search needs
 
--- src/sets.rt:72:9
 returns : tie.Need-returns
-returns c = ?
+returns c =
+    let k = c .before .before .before in
+    leaf-empty (unpacked (k .before .args .node)) _ _ (sym (k .kind-of .ensures) ∙ c .before .before .if1 .taken) (c .before .none .ensures .0) (c .none2 .ensures .0)
 
--- src/sets.rt:81:27
 code-of-requires : tie.Need-code-of-requires
 code-of-requires c κs = search needs
 
--- src/sets.rt:81:16
 one-requires : tie.Need-one-requires
-one-requires c κs = ?
+one-requires c κs =
+    let start = c .before .before .before in
+    let code : c .code-of .result ≡ codeOf (unpacked (start .args .node)) = c .code-of .ensures in
+    let small = table-code (start .pre .1) (event-kind (start .pre .0) (λ z. c .before .if1 .left (c .before .before .kind-of .ensures ∙ z))) in
+    omega arith
 
--- src/sets.rt:82:16
 none-requires-3 : tie.Need-none-requires-3
 none-requires-3 c κs = search needs
 
--- src/sets.rt:66:1
 returns-2 : tie.Need-returns-2
-returns-2 c = ?
+returns-2 c =
+    let code = c .before .before in
+    let start = code .before .before .before in
+    leaf-event (unpacked (start .args .node)) _ _ (event-kind (start .pre .0) (λ z. code .before .if1 .left (code .before .before .kind-of .ensures ∙ z)))
+    (subst (λ (d : ℕ). (e : ℕ) → Has (c .before .one .result) e ↔ (e ≡ d)) (code .code-of .ensures) (c .before .one .ensures .0)) (c .none3 .ensures .0)
 
 pub leaf-sets-spec : {M : Type 1} → statement M
 leaf-sets-spec =

@@ -1,21 +1,21 @@
+-- `judge::sets::only_if` meets its contract. Assumes nothing.
+use mathlib.Core.Bool.{Bool, So, true, false, false≢true}
+use mathlib.Core.Logic.{_↔_}
+use mathlib.Core.Path.{_≡_, sym, _∙_}
+use Prim.Native.Nat.{ℕ}
 use borrow.Author.Needs.{needs}
+use Rattle.meaning.specs.Codes.{Has}
 use Rattle.judge.proofs.sets.only_if.Statement.{statement}
 use Rattle.judge.proofs.sets.only_if.Tie as tie
-use Rattle.judge.proofs.sets.only_if.Reads as reads
-use Rattle.judge.proofs.sets.only_if.Lts as lts
-use Rattle.codes.proofs.none.Reads as none-reads
 
--- src/sets.rt:33:28
 none-requires : tie.Need-none-requires
 none-requires c κs = search needs
 
--- src/sets.rt:30:1
 returns : tie.Need-returns
-returns c = ?
+returns c = λ d. (λ h. (c .if1 .taken, h), λ p. p .1)
 
--- src/sets.rt:30:1
 returns-2 : tie.Need-returns-2
-returns-2 c = ?
+returns-2 c = λ d. (λ h. absurd (c .none .ensures .0 d h), λ p. absurd (false≢true (sym (c .before .if1 .left) ∙ p .0)))
 
 pub only-if-spec : {M : Type 1} → statement M
 only-if-spec = tie.close (tie.spec none-requires returns returns-2)
