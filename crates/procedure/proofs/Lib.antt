@@ -1,2 +1,7 @@
 -- The laws that belong to no one function.
+mod Counting
+mod Deciding
+mod Entries
+mod Lines
+mod Orders
 mod Trailer

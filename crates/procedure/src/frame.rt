@@ -20,7 +20,7 @@ const LETTERS: u64 = 0x5051_4553;
 const EDITION: u64 = 1;
 
 // The trailer, and what stands in it, in bytes from the end of the file.
-const TRAILER: usize = 12;
+pub const TRAILER: usize = 12;
 
 const COUNT: usize = 8;
 
@@ -29,7 +29,7 @@ const NUMBER: usize = 6;
 const DISTANCE: usize = 4;
 
 // How many bytes a node record has.
-const RECORD: usize = 8;
+pub const RECORD: usize = 8;
 
 // Whether 1 does not apply.
 pub fn sized(file: &[u8]) -> bool
