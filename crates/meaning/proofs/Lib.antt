@@ -21,3 +21,4 @@ pub mod AfterWorded
 pub mod Files
 pub mod Refusals
 pub mod Records
+pub mod FreeText
