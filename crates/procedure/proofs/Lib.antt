@@ -3,5 +3,6 @@ mod Counting
 mod Deciding
 mod Entries
 mod Lines
+mod Openings
 mod Orders
 mod Trailer
