@@ -5,6 +5,7 @@ use Prim.Native.Nat.{ℕ, _+_, _≤_, _<_}
 use native.Mathlib.Omega.{arith}
 use Rattle.meaning.specs.Conflict.{Conflict, ConflictAt}
 use Rattle.meaning.specs.Expr.{Expr, empty, event, choice, sequence, repeat, size, root, Part, Whole}
+use Rattle.meaning.proofs.Parts.{part-below}
 use Rattle.judge.specs.Lowest.{Conflicts, Names, orElse}
 use Rattle.judge.specs.declared.conflict.Found.{Found}
 use Rattle.judge.proofs.Lowest.{Either, Same, Ahead, names-same, names-either}
@@ -22,18 +23,6 @@ part-from s (sequence l r) i p (inr (inl w)) = let h = part-from (s + size l) r 
 part-from s (sequence l r) i p (inr (inr w)) = let h = w .0 in omega arith
 part-from s (repeat b lower upper) i p (inl w) = part-from s b i p w
 part-from s (repeat b lower upper) i p (inr w) = let h = w .0 in omega arith
-
-part-below : (s : ℕ) (e : Expr) (i : ℕ) (p : Expr) → Part s e i p → i < s + size e
-part-below s empty i p w = let h = w .0 in omega arith
-part-below s (event c) i p w = let h = w .0 in omega arith
-part-below s (choice l r) i p (inl w) = let h = part-below s l i p w in omega arith
-part-below s (choice l r) i p (inr (inl w)) = let h = part-below (s + size l) r i p w in omega arith
-part-below s (choice l r) i p (inr (inr w)) = let h = w .0 in omega arith
-part-below s (sequence l r) i p (inl w) = let h = part-below s l i p w in omega arith
-part-below s (sequence l r) i p (inr (inl w)) = let h = part-below (s + size l) r i p w in omega arith
-part-below s (sequence l r) i p (inr (inr w)) = let h = w .0 in omega arith
-part-below s (repeat b lower upper) i p (inl w) = let h = part-below s b i p w in omega arith
-part-below s (repeat b lower upper) i p (inr w) = let h = w .0 in omega arith
 
 -- every conflict of R is below node n; every one is from node n on
 abbrev Under : ℕ → Conflicts → Type 0

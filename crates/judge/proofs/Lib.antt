@@ -1,4 +1,6 @@
 -- The laws that belong to no one function.
+pub mod Admissions
+pub mod Answers
 mod Iffs
 mod Lowest
 mod Conflicts
