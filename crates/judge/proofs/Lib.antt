@@ -1,10 +1,10 @@
--- The laws that belong to no one function.
+-- The laws that belong to no one function: what a file's answer means, and from the entries of a file to its expression, for whoever
+-- uses the judge; the others for the proofs of this crate.
 pub mod Admissions
 pub mod Answers
-mod Iffs
-mod Lowest
+mod Bounds
 mod Conflicts
 mod Joins
 mod Leaves
-mod Standing
-mod Bounds
+mod Lowest
+pub mod Standing
