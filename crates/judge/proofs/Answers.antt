@@ -98,6 +98,11 @@ lowest-of f a i k c (Judges.refused r (conflicting e j l d p o)) = (
 
 -- ---- of the numbers that Judge promises
 
+-- the numbers of an answer
+pub answer-promise : (f : List ℕ) (a : JudgeAnswer) → Judges f a → JudgePromise f (judgeNumbers a)
+unfolding JudgePromise
+answer-promise f a p = (a, p, refl)
+
 pub zero-iff-strong : (f : List ℕ) (out : JudgeNumbers) → JudgePromise f out
     → (out .answer ≡ 0) ↔ ((e : Expr) × FewRepeats f e × StronglyDeterministic e)
 unfolding JudgePromise

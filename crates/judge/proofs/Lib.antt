@@ -1,9 +1,10 @@
--- The laws that belong to no one function: what a file's answer means, and from the entries of a file to its expression, for whoever
--- uses the judge; the others for the proofs of this crate.
-pub mod Admissions
+-- The laws that belong to no one function: `Answers`, `Entries` and `Standing` for whoever uses the judge, the others for the proofs
+-- of this crate.
+mod Admissions
 pub mod Answers
 mod Bounds
 mod Conflicts
+pub mod Entries
 mod Joins
 mod Leaves
 mod Lowest

@@ -160,7 +160,8 @@ texts-alike text other rest s t w least most =
       nodes = text-nodes text rest s w ∙ sym (text-nodes other rest t w);
     }
 
--- the free text changes no answer: `rest` is n node records, n from 1 to 512, and the trailer
+-- the free text changes no answer: `rest` is n node records and the trailer, n from 1 to 512. (For another n it is the text's length
+-- that decides whether the file's is wrong, so whether 1 is given or 3.)
 pub text-judges-nothing : (text other rest : List ℕ) → length text ≤ 4096 → length other ≤ 4096 → length rest ≡ span (count rest)
     → 1 ≤ count rest → count rest ≤ 512 → (answer : JudgeAnswer) → Judges (text ++ rest) answer ↔ Judges (other ++ rest) answer
 text-judges-nothing text other rest s t w least most answer =
