@@ -1,6 +1,6 @@
 -- The conflicts of a part: those of its children and its own, each group before the next. Assumes nothing.
 use mathlib.Core.Logic.{_↔_, _⊎_, inl, inr, ⊎-elim}
-use mathlib.Core.Path.{_≡_, refl, sym, subst}
+use mathlib.Core.Path.{_≡_, refl, subst}
 use Prim.Native.Nat.{ℕ, _+_, _≤_, _<_}
 use native.Mathlib.Omega.{arith}
 use Rattle.meaning.specs.Conflict.{Conflict, ConflictAt}
@@ -54,9 +54,8 @@ own-from n m e h i k c x = let g = x .0 in omega arith
 whole-own : (s : ℕ) (e : Expr) (i k c : ℕ) → ((p : Expr) × Whole s e i p × Conflict p k c) ↔ OwnAt (root s e) e i k c
 whole-own s e i k c = (λ x. (x .1 .0, subst (λ (p : Expr). Conflict p k c) (x .1 .1) (x .2)), λ x. (e, (x .0, refl), x .1))
 
--- ---- of a leaf, of a node with two children, of a repeat
+-- ---- of a node with two children, of a repeat
 
--- the conflicts of a node with two children
 abbrev OfTwo : ℕ → Expr → Expr → Expr → Conflicts
 OfTwo s l r e i k c = (p : Expr) × (Part s l i p ⊎ Part (s + size l) r i p ⊎ Whole s e i p) × Conflict p k c
 

@@ -2,13 +2,12 @@
 use mathlib.Core.Bool.{Bool, So, _&&_, _||_}
 use mathlib.Core.Logic.{_↔_, _⊎_, inl, inr, ⊎-elim, Iff·trans, Iff·and}
 use mathlib.Core.Path.{_≡_, refl, sym, ap, subst, subst₂, _∙_}
-use Prim.Native.Nat.{ℕ, zero, suc, _+_}
+use Prim.Native.Nat.{ℕ, zero, suc}
 use native.Mathlib.Omega.{arith}
 use lib.Dec.{eqb}
 use borrow.Author.Tests.{ne-eqb}
 use Rattle.meaning.specs.Codes.{Has}
-use Rattle.meaning.specs.Conflict.{Conflict}
-use Rattle.meaning.specs.Expr.{Expr, empty, event, choice, sequence, repeat, size, root, Upper, Within}
+use Rattle.meaning.specs.Expr.{Expr, choice, sequence, repeat, root, Upper, Within}
 use Rattle.meaning.specs.Node.{bound}
 use Rattle.meaning.specs.Normal.{nullable, low, isZero}
 use Rattle.meaning.specs.Sets.{First, After, Starts, Flexible}

@@ -1,8 +1,8 @@
 -- The free text judges nothing: files that differ only in the bytes before the first node are refused alike and list the same
 -- expression, so Judge answers them alike. Assumes nothing.
-use mathlib.Core.Path.{_≡_, sym, ap, ap₂, subst, subst₂, _∙_, fun-ext}
+use mathlib.Core.Path.{_≡_, sym, ap, ap₂, subst₂, _∙_, fun-ext}
 use mathlib.Core.Logic.{_↔_}
-use mathlib.Core.List.{List, [], _∷_, _++_}
+use mathlib.Core.List.{List, _++_}
 use Prim.Native.Nat.{ℕ, suc, _+_, _-_, _*_, _≤_, _<_}
 use native.Mathlib.Omega.{arith}
 use lib.ListN.{length, take, drop, length-append}
