@@ -5,7 +5,7 @@ use Prim.Native.Nat.{ℕ, _+_, _-_, _≤_, _<_}
 use native.Mathlib.Omega.{arith}
 use Rattle.meaning.specs.Expr.{Expr, empty, event, choice, sequence, repeat, size, root, Upper}
 use Rattle.meaning.specs.Node.{Node, node, InTable, Stands, InOrder, bound}
-use Rattle.meaning.proofs.Files.{root-size}
+use Rattle.meaning.proofs.Parts.{root-size}
 use Rattle.procedure.specs.Entry.{kindOf, leftOf, lowerOf, upperOf}
 use Rattle.judge.specs.Sets.{SetsOf, SetsAt, Joins, Repeats, TableUpTo}
 use Rattle.judge.specs.declared.sets.Sets.{Sets}
