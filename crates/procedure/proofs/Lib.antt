@@ -1,0 +1,6 @@
+-- The laws that belong to no one function.
+mod Deciding
+mod Entries
+mod Lines
+mod Orders
+mod Trailer

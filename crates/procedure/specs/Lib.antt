@@ -1,0 +1,4 @@
+-- What the contracts on files and nodes cite.
+pub mod Entry
+pub mod Tests
+pub mod Parts

@@ -1,0 +1,7 @@
+// The procedure file: read into entries, or refused with 1 to 6.
+mod bytes; // bytes.rt: numbers in the file's bytes
+pub mod entry; // entry.rt: what an entry says of its node
+mod frame; // frame.rt: the tests 1 to 3, on the length and the trailer
+mod fill; // fill.rt: the node records as entries
+mod table; // table.rt: the test 4, on each record
+mod order; // order.rt: the test 5, on how the nodes stand

@@ -1,0 +1,88 @@
+// The test 5: the postfix order of the nodes.
+ghost use mathlib.Core.Path.{_≡_};
+ghost use Prim.Native.Nat.{ℕ, _≤_, _<_};
+ghost use Rattle.meaning.specs.Node.{InTable};
+ghost use Rattle.procedure.specs.Entry.{held};
+ghost use Rattle.procedure.specs.Parts.{Started, StartsAt, Ordered};
+use crate::entry;
+
+// Where the part of a node begins.
+pub enum Start {
+    // At this node.
+    At(usize),
+    // Nowhere: the node is out of order.
+    Nowhere,
+}
+
+// How the nodes of a file stand.
+pub enum Postfix {
+    // Each in order, and the part of the last begins at this node.
+    From(usize),
+    // This node is the lowest that is out of order.
+    Broken(usize),
+}
+
+fn wide(x: u16) -> usize
+    ensures { λ r. ⌜ r ≡ x ⌝ }
+{
+    x as usize
+}
+
+fn narrow(x: usize) -> u16
+    requires { ⌜ x < 65536 ⌝ }
+    ensures { λ r. ⌜ r ≡ x ⌝ }
+{
+    x as u16
+}
+
+// Where the part of node i begins, from the starts of the parts below.
+fn start_of(nodes: &[u64; 512], starts: &[u16; 512], i: usize) -> Start
+    requires { ⌜ i < 512 ⌝ }
+    requires { ⌜ InTable (held (now nodes) i) ⌝ }
+    requires { ⌜ Started (held (now nodes)) (now starts) i ⌝ }
+    ensures { λ r. ⌜ StartsAt (held (now (nodes .entry))) i r ⌝ }
+{
+    let entry = nodes[i];
+    let kind = entry::kind_of(entry);
+    if kind < entry::CHOICE {
+        return Start::At(i);
+    }
+    if i < 1 {
+        return Start::Nowhere;
+    }
+    let before = wide(starts[i - 1]);
+    if kind == entry::REPEAT {
+        if entry::body_of(entry) != i - 1 {
+            return Start::Nowhere;
+        }
+        return Start::At(before);
+    }
+    if entry::right_of(entry) != i - 1 {
+        return Start::Nowhere;
+    }
+    if before < 1 {
+        return Start::Nowhere;
+    }
+    if entry::left_of(entry) != before - 1 {
+        return Start::Nowhere;
+    }
+    Start::At(wide(starts[before - 1]))
+}
+
+// How the first n nodes stand.
+pub fn order_of(nodes: &[u64; 512], n: usize) -> Postfix
+    requires { ⌜ (1 ≤ n) × (n ≤ 512) ⌝ }
+    requires { ⌜ ((j : ℕ) → j < n → InTable (held (now nodes) j)) ⌝ }
+    ensures { λ r. ⌜ Ordered (held (now (nodes .entry))) n r ⌝ }
+{
+    let mut starts = [0u16; 512];
+    let mut i = 0;
+    while i < n {
+        let Start::At(start) = start_of(nodes, &starts, i) else {
+            return Postfix::Broken(i);
+        };
+        starts[i] = narrow(start);
+        i += 1;
+    }
+    Postfix::From(wide(starts[n - 1]))
+}
