@@ -31,7 +31,7 @@ pub outside-apart : (s i t j : ℕ) (x : List Item) (w : List ℕ) → j < 4096 
 outside-apart s i t j [] w l h a o = o
 outside-apart s i t j (y ∷ x) w l h a o = λ p. let k = inside-item t j y (itemNumber y) l a refl in omega arith
 
-map-append : (x y : List Item) (t : List ℕ) → map itemNumber (x ++ y) ++ t ≡ map itemNumber x ++ (map itemNumber y ++ t)
+pub map-append : (x y : List Item) (t : List ℕ) → map itemNumber (x ++ y) ++ t ≡ map itemNumber x ++ (map itemNumber y ++ t)
 map-append [] y t = refl
 map-append (a ∷ x) y t = ap {B = List ℕ} (λ w. itemNumber a ∷ w) (map-append x y t)
 
@@ -62,24 +62,27 @@ module _ (P : List Item → Type 0) (s i : ℕ) (small : i < 4096) (heads : (x :
 
 -- ---- a leaf
 
-pub empty-nowhere : (s n : ℕ) (w : List ℕ) → Inside s s n → Takes Nil s s (n ∷ w) nowhere
-empty-nowhere s n w h = record { eaten = tt; only = λ x t p e o. go x t p e o }
+pub empty-nowhere : (s n : ℕ) (w u : List ℕ) → w ≡ n ∷ u → Inside s s n → Takes Nil s s w nowhere
+empty-nowhere s n w u c h = record { eaten = tt; only = go }
   where
-    go : (x : List Item) (t : List ℕ) → Nil x → n ∷ w ≡ map itemNumber x ++ t → Outside s s t → nowhere ≡ from t
-    go x t nil e o = absurd (subst (Outside s s) (sym e) o h)
+    go : (x : List Item) (t : List ℕ) → Nil x → w ≡ map itemNumber x ++ t → Outside s s t → nowhere ≡ from t
+    go x t nil e o = absurd (subst (Outside s s) (sym e ∙ c) o h)
 
 -- the one reading of an event is that event, with mark 0
-pub event-taken : (s c n : ℕ) (w : List ℕ) → n ≡ s → Takes (One (place s c)) s s (n ∷ w) (from w)
-event-taken s c n w h = record { eaten = (place s c ∷ [], one, ap {B = List ℕ} (λ k. k ∷ w) (h ∙ omega arith)); only = λ x t p e o. go x t p e }
+pub event-taken : (s c n : ℕ) (w u : List ℕ) → w ≡ n ∷ u → n ≡ s → Takes (One (place s c)) s s w (from u)
+event-taken s c n w u h k = record {
+  eaten = (place s c ∷ [], one, h ∙ ap {B = List ℕ} (λ m. m ∷ u) (k ∙ omega arith));
+  only = go;
+}
   where
-    go : (x : List Item) (t : List ℕ) → One (place s c) x → n ∷ w ≡ map itemNumber x ++ t → from w ≡ from t
-    go x t one e = cc
+    go : (x : List Item) (t : List ℕ) → One (place s c) x → w ≡ map itemNumber x ++ t → Outside s s t → from u ≡ from t
+    go x t one e o = cc
 
-pub event-nowhere : (s c n : ℕ) (w : List ℕ) → ¬ (n ≡ s) → Takes (One (place s c)) s s (n ∷ w) nowhere
-event-nowhere s c n w h = record { eaten = tt; only = λ x t p e o. go x t p e }
+pub event-nowhere : (s c n : ℕ) (w u : List ℕ) → w ≡ n ∷ u → ¬ (n ≡ s) → Takes (One (place s c)) s s w nowhere
+event-nowhere s c n w u h k = record { eaten = tt; only = go }
   where
-    go : (x : List Item) (t : List ℕ) → One (place s c) x → n ∷ w ≡ map itemNumber x ++ t → nowhere ≡ from t
-    go x t one e = absurd (h (head-same n (s + 4096 * 0) w t e ∙ omega arith))
+    go : (x : List Item) (t : List ℕ) → One (place s c) x → w ≡ map itemNumber x ++ t → Outside s s t → nowhere ≡ from t
+    go x t one e o = absurd (k (head-same n (s + 4096 * 0) u t (sym h ∙ e) ∙ omega arith))
 
 -- ---- a choice, and a sequence
 
@@ -90,34 +93,31 @@ eaten-map f w nowhere a = tt
 -- P has the readings of the left, whose nodes are s to m; Q those of the right, whose nodes are t to j; both below i
 module _ (P Q : List Item → Type 0) (s m t j i : ℕ) (next : t ≡ m + 1) (from-s : s ≤ m) (up : j < i) (below : m < i) (small : i < 4096)
     (left-heads : (x : List Item) → P x → Heads s m x) (right-heads : (x : List Item) → Q x → Heads t j x) where
+  -- a reading cannot begin with a number that lies in the whole and not in its own part
+  not-here : (R : List Item → Type 0) (a b : ℕ) → b ≤ i → ((x : List Item) → R x → Heads a b x) → (n : ℕ) (w u : List ℕ) → w ≡ n ∷ u
+      → Inside s i n → ¬ Inside a b n → (x : List Item) (v : List ℕ) → R x → w ≡ map itemNumber x ++ v → Outside s i v → ⊥
+  not-here R a b l heads n w u c h k [] v p e o = subst (Outside s i) (sym e ∙ c) o h
+  not-here R a b l heads n w u c h k (y ∷ x) v p e o =
+      k (inside-item a b y n (omega arith) (heads (y ∷ x) p) (head-same n (itemNumber y) u (map itemNumber x ++ v) (sym c ∙ e)))
 
-  -- a reading that starts with numbers inside the other part leaves numbers that begin inside the whole
-  not-here : (R : List Item → Type 0) (a b : ℕ) → s ≤ a → b ≤ i → ((x : List Item) → R x → Heads a b x) → (n : ℕ) (w : List ℕ)
-      → Inside s i n → ¬ Inside a b n → (x : List Item) (v : List ℕ) → R x → n ∷ w ≡ map itemNumber x ++ v → Outside s i v → ⊥
-  not-here R a b la lb heads n w h k [] v p e o = subst (Outside s i) (sym e) o h
-  not-here R a b la lb heads n w h k (y ∷ x) v p e o =
-      k (inside-item a b y n (omega arith) (heads (y ∷ x) p) (head-same n (itemNumber y) w (map itemNumber x ++ v) e))
-
-  pub choice-left : (n : ℕ) (w : List ℕ) (r : Rest) → Inside s m n → Takes P s m (n ∷ w) r → Takes (Or P Q) s i (n ∷ w) r
-  choice-left n w r h a = record {
-    eaten = eaten-map (λ x. left) (n ∷ w) r (a .eaten);
+  pub choice-left : (n : ℕ) (w u : List ℕ) (r : Rest) → w ≡ n ∷ u → Inside s m n → Takes P s m w r → Takes (Or P Q) s i w r
+  choice-left n w u r c h a = record {
+    eaten = eaten-map (λ x. left) w r (a .eaten);
     only = go;
   }
     where
-      go : (x : List Item) (v : List ℕ) → Or P Q x → n ∷ w ≡ map itemNumber x ++ v → Outside s i v → r ≡ from v
+      go : (x : List Item) (v : List ℕ) → Or P Q x → w ≡ map itemNumber x ++ v → Outside s i v → r ≡ from v
       go x v (left p) e o = a .only x v p e (outside-narrow s s i m v (omega arith) (omega arith) o)
-      go x v (right q) e o =
-          absurd (not-here Q t j (omega arith) (omega arith) right-heads n w (omega arith) (λ k. omega arith) x v q e o)
+      go x v (right q) e o = absurd (not-here Q t j (omega arith) right-heads n w u c (omega arith) (λ k. omega arith) x v q e o)
 
-  pub choice-right : (n : ℕ) (w : List ℕ) (r : Rest) → Inside t j n → Takes Q t j (n ∷ w) r → Takes (Or P Q) s i (n ∷ w) r
-  choice-right n w r h a = record {
-    eaten = eaten-map (λ x. right) (n ∷ w) r (a .eaten);
+  pub choice-right : (n : ℕ) (w u : List ℕ) (r : Rest) → w ≡ n ∷ u → Inside t j n → Takes Q t j w r → Takes (Or P Q) s i w r
+  choice-right n w u r c h a = record {
+    eaten = eaten-map (λ x. right) w r (a .eaten);
     only = go;
   }
     where
-      go : (x : List Item) (v : List ℕ) → Or P Q x → n ∷ w ≡ map itemNumber x ++ v → Outside s i v → r ≡ from v
-      go x v (left p) e o =
-          absurd (not-here P s m (omega arith) (omega arith) left-heads n w (omega arith) (λ k. omega arith) x v p e o)
+      go : (x : List Item) (v : List ℕ) → Or P Q x → w ≡ map itemNumber x ++ v → Outside s i v → r ≡ from v
+      go x v (left p) e o = absurd (not-here P s m (omega arith) left-heads n w u c (omega arith) (λ k. omega arith) x v p e o)
       go x v (right q) e o = a .only x v q e (outside-narrow s t i j v (omega arith) (omega arith) o)
 
   pub sequence-both : (w v : List ℕ) (r : Rest) → Takes P s m w (from v) → Takes Q t j v r → Takes (Cat P Q) s i w r
