@@ -11,7 +11,7 @@ use Rattle.meaning.specs.Expr.{Expr, empty, event, choice, sequence, repeat, si
 use Rattle.meaning.specs.Node.{Node, node, InTable, InOrder, Stands, bound, empty-line, event-line, choice-line, sequence-line, repeat-line}
 use Rattle.meaning.proofs.Files.{root-size, stands-unique}
 use Rattle.procedure.specs.Entry.{kindOf, leftOf, rightOf, bodyOf, lowerOf, upperOf}
-use Rattle.procedure.specs.Parts.{Begins, OrderedBelow, Started}
+use Rattle.procedure.specs.Parts.{Begins, OrderTested, OrderedBelow, Started, late, whole}
 
 size-pos : (e : Expr) → 1 ≤ size e
 size-pos empty = omega arith
@@ -155,3 +155,17 @@ started-more g starts i s v h started b e =
 
 pub started-ordered : (g : ℕ → Node) (starts : List ℕ) (i : ℕ) → Started g starts i → OrderedBelow g i
 started-ordered g starts i started j l = let b = started j l in (getD starts j 0, b .0, b .1, b .2)
+
+-- every start is found: that of the last part decides
+pub late-start : (g : ℕ → Node) (starts : List ℕ) (n : ℕ) → 1 ≤ n → Started g starts n → 0 < getD starts (n - 1) 0 → OrderTested g n (n - 1)
+late-start g starts n h started l =
+    late
+    (n - 1)
+    (omega arith)
+    (started-ordered g starts n started)
+    (λ b. omega (arith, begins-unique g (getD starts (n - 1) 0) 0 (n - 1) (started (n - 1) (omega arith)) b))
+
+pub whole-start : (g : ℕ → Node) (starts : List ℕ) (n : ℕ) → 1 ≤ n → Started g starts n → getD starts (n - 1) 0 ≤ 0 → OrderTested g n n
+whole-start g starts n h started l =
+    let first : getD starts (n - 1) 0 ≡ 0 = omega arith in
+    whole (subst (λ (s : ℕ). Begins g s (n - 1)) first (started (n - 1) (omega arith)))

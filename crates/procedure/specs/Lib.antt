@@ -2,3 +2,4 @@
 pub mod Entry
 pub mod Tests
 pub mod Parts
+pub mod Opening

@@ -3,7 +3,7 @@ ghost use mathlib.Core.Path.{_≡_};
 ghost use Prim.Native.Nat.{ℕ, _≤_, _<_};
 ghost use Rattle.meaning.specs.Node.{InTable};
 ghost use Rattle.procedure.specs.Entry.{held};
-ghost use Rattle.procedure.specs.Parts.{Started, StartsAt, Ordered};
+ghost use Rattle.procedure.specs.Parts.{OrderTested, Started, StartsAt};
 use crate::entry;
 
 // Where the part of a node begins.
@@ -12,14 +12,6 @@ pub enum Start {
     At(usize),
     // Nowhere: the node is out of order.
     Nowhere,
-}
-
-// How the nodes of a file stand.
-pub enum Postfix {
-    // Each in order, and the part of the last begins at this node.
-    From(usize),
-    // This node is the lowest that is out of order.
-    Broken(usize),
 }
 
 fn wide(x: u16) -> usize
@@ -69,20 +61,23 @@ fn start_of(nodes: &[u64; 512], starts: &[u16; 512], i: usize) -> Start
     Start::At(wide(starts[before - 1]))
 }
 
-// How the first n nodes stand.
-pub fn order_of(nodes: &[u64; 512], n: usize) -> Postfix
+// The lowest of the first n nodes that is out of order; or the last, where its part does not begin at node 0; or n.
+pub fn lowest_out_of_order(nodes: &[u64; 512], n: usize) -> usize
     requires { ⌜ (1 ≤ n) × (n ≤ 512) ⌝ }
     requires { ⌜ ((j : ℕ) → j < n → InTable (held (now nodes) j)) ⌝ }
-    ensures { λ r. ⌜ Ordered (held (now (nodes .entry))) n r ⌝ }
+    ensures { λ r. ⌜ OrderTested (held (now (nodes .entry))) n r ⌝ }
 {
     let mut starts = [0u16; 512];
     let mut i = 0;
     while i < n {
         let Start::At(start) = start_of(nodes, &starts, i) else {
-            return Postfix::Broken(i);
+            return i;
         };
         starts[i] = narrow(start);
         i += 1;
     }
-    Postfix::From(wide(starts[n - 1]))
+    if 0 < starts[n - 1] {
+        return n - 1;
+    }
+    n
 }

@@ -1,16 +1,16 @@
--- `procedure::order::order_of` meets its contract. The loop's invariant: the starts below i are those of the nodes' parts.
--- Assumes nothing.
-use mathlib.Core.Path.{_≡_, refl, sym, subst}
-use Prim.Native.Nat.{ℕ, _≤_, _-_}
+-- `procedure::order::lowest_out_of_order` meets its contract. The loop's invariant: the starts below i are those of the nodes'
+-- parts. Assumes nothing.
+use mathlib.Core.Path.{_≡_, refl, subst}
+use Prim.Native.Nat.{_≤_, _-_}
 use native.Mathlib.Omega.{arith}
 use borrow.Author.Count.{below-none}
 use lib.ListN.{length, length-set}
 use borrow.Author.Needs.{needs}
 use Rattle.procedure.specs.Entry.{held}
-use Rattle.procedure.specs.Parts.{Begins, Started, StartsAt}
-use Rattle.procedure.proofs.Orders.{begins-below, started-more, started-ordered}
-use Rattle.procedure.proofs.order.order_of.Statement.{statement}
-use Rattle.procedure.proofs.order.order_of.Tie as tie
+use Rattle.procedure.specs.Parts.{Begins, Started, StartsAt, broken}
+use Rattle.procedure.proofs.Orders.{begins-below, late-start, started-more, started-ordered, whole-start}
+use Rattle.procedure.proofs.order.lowest_out_of_order.Statement.{statement}
+use Rattle.procedure.proofs.order.lowest_out_of_order.Tie as tie
 
 abbrev Inv-loop : tie.InvT-loop
 Inv-loop nodes n starts₀ i₀ starts i = (i ≤ n) × (length starts ≡ 512) × Started (held nodes) starts i
@@ -24,6 +24,10 @@ at m = m .before .before .before .before .before
 -- the part of node i begins where the call says
 begun : (m : tie.After-start Inv-loop μ-loop) → Begins (held (at m .before .args .nodes .now)) (m .start .given .0 .0) (at m .loop .i)
 begun m = subst (StartsAt (held (at m .before .args .nodes .now)) (at m .loop .i)) (m .start .given .1) (m .before .before .start-of .ensures)
+
+-- past the loop every start is found
+all : (m : tie.After-loop Inv-loop μ-loop) → Started (held (m .before .before .args .nodes .now)) (m .before .loop .starts) (m .before .before .args .n)
+all m = subst (Started (held (m .before .before .args .nodes .now)) (m .before .loop .starts)) (omega arith) (m .before .loop .inv .2)
 
 loop-holds : tie.Need-loop-holds Inv-loop μ-loop
 loop-holds c = (search needs, refl, below-none _)
@@ -40,11 +44,12 @@ enum-told c = search needs
 returns : tie.Need-returns Inv-loop μ-loop
 returns c =
     let a = c .before .before .before .before .before in
-    let g = held (a .before .args .nodes .now) in (
-      omega arith,
-      started-ordered g (a .loop .starts) (a .loop .i) (a .loop .inv .2),
-      subst (StartsAt g (a .loop .i)) (c .enum-told .given .1) (c .before .before .start-of .ensures),
-    )
+    let g = held (a .before .args .nodes .now) in
+    broken
+    (a .loop .i)
+    (omega arith)
+    (started-ordered g (a .loop .starts) (a .loop .i) (a .loop .inv .2))
+    (subst (StartsAt g (a .loop .i)) (c .enum-told .given .1) (c .before .before .start-of .ensures))
 
 narrow-requires : tie.Need-narrow-requires Inv-loop μ-loop
 narrow-requires c κs = let l = begins-below _ _ _ (begun (c .before)) in omega arith
@@ -78,28 +83,30 @@ loop-again c =
           (c .narrow .ensures),
     )
 
-sub-wide : tie.Need-sub-wide Inv-loop μ-loop
-sub-wide c = search needs
+sub-if1 : tie.Need-sub-if1 Inv-loop μ-loop
+sub-if1 c = search needs
 
-mul-wide : tie.Need-mul-wide Inv-loop μ-loop
-mul-wide c = search needs
+mul-if1 : tie.Need-mul-if1 Inv-loop μ-loop
+mul-if1 c = search needs
 
-array-read-wide : tie.Need-array-read-wide Inv-loop μ-loop
-array-read-wide c = search needs
+array-read-if1 : tie.Need-array-read-if1 Inv-loop μ-loop
+array-read-if1 c = search needs
 
-wide-requires : tie.Need-wide-requires Inv-loop μ-loop
-wide-requires c κs = search needs
+sub-result : tie.Need-sub-result Inv-loop μ-loop
+sub-result c = search needs
 
 returns-2 : tie.Need-returns-2 Inv-loop μ-loop
 returns-2 c =
     let a = c .before .before in
-    let n = a .before .args .n in
-    let g = held (a .before .args .nodes .now) in
-    let started : Started g (a .loop .starts) n = subst (Started g (a .loop .starts)) (omega arith) (a .loop .inv .2) in
-    (started-ordered g (a .loop .starts) n started, subst (λ (s : ℕ). Begins g s (n - 1)) (sym (c .wide .ensures)) (started (n - 1) (omega arith)))
+    late-start (held (a .before .args .nodes .now)) (a .loop .starts) (a .before .args .n) (omega arith) (all (c .before)) (c .if1 .taken)
 
-pub order-of-spec : {M : Type 1} → statement M
-order-of-spec =
+returns-3 : tie.Need-returns-3 Inv-loop μ-loop
+returns-3 c =
+    let a = c .before .before in
+    whole-start (held (a .before .args .nodes .now)) (a .loop .starts) (a .before .args .n) (omega arith) (all (c .before)) (c .if1 .left)
+
+pub lowest-out-of-order-spec : {M : Type 1} → statement M
+lowest-out-of-order-spec =
     tie.close
     (tie.spec
     Inv-loop
@@ -115,8 +122,9 @@ order-of-spec =
     add-i
     loop-less
     loop-again
-    sub-wide
-    mul-wide
-    array-read-wide
-    wide-requires
-    returns-2)
+    sub-if1
+    mul-if1
+    array-read-if1
+    sub-result
+    returns-2
+    returns-3)
