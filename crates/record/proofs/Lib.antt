@@ -1,5 +1,10 @@
 -- The laws that belong to no one function.
-mod Heads
-mod Takes
 mod Blocks
+mod Bounds
 mod Bytes
+mod Empties
+mod Heads
+mod Standing
+mod Stays
+mod Takes
+mod Walks

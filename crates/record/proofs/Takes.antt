@@ -110,14 +110,14 @@ module _ (P Q : List Item → Type 0) (s m t j i : ℕ) (next : t ≡ m + 1) (fr
       go x v (left p) e o = a .only x v p e (outside-narrow s s i m v (omega arith) (omega arith) o)
       go x v (right q) e o = absurd (not-here Q t j (omega arith) right-heads n w u c (omega arith) (λ k. omega arith) x v q e o)
 
-  pub choice-right : (n : ℕ) (w u : List ℕ) (r : Rest) → w ≡ n ∷ u → Inside t j n → Takes Q t j w r → Takes (Or P Q) s i w r
-  choice-right n w u r c h a = record {
+  pub choice-right : (n : ℕ) (w u : List ℕ) (r : Rest) → w ≡ n ∷ u → Inside s i n → ¬ Inside s m n → Takes Q t j w r → Takes (Or P Q) s i w r
+  choice-right n w u r c h k a = record {
     eaten = eaten-map (λ x. right) w r (a .eaten);
     only = go;
   }
     where
       go : (x : List Item) (v : List ℕ) → Or P Q x → w ≡ map itemNumber x ++ v → Outside s i v → r ≡ from v
-      go x v (left p) e o = absurd (not-here P s m (omega arith) left-heads n w u c (omega arith) (λ k. omega arith) x v p e o)
+      go x v (left p) e o = absurd (not-here P s m (omega arith) left-heads n w u c h k x v p e o)
       go x v (right q) e o = a .only x v q e (outside-narrow s t i j v (omega arith) (omega arith) o)
 
   pub sequence-both : (w v : List ℕ) (r : Rest) → Takes P s m w (from v) → Takes Q t j v r → Takes (Cat P Q) s i w r

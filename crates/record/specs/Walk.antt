@@ -62,9 +62,18 @@ abbrev pub Onward : List ℕ → ℕ → Taken → Type 0
 Onward w at (To t) = (at ≤ t) × (t ≤ length w)
 Onward w at Stuck = Unit {0}
 
+-- the walk goes to `at` where P holds, and is stuck where it does not
+abbrev pub Ends : Type 0 → ℕ → Taken → Type 0
+Ends P at (To t) = P × (t ≡ at)
+Ends P at Stuck = ¬ P
+
+-- the answer says whether the part of node i has the empty word
+unfoldable pub NullAt : (ℕ → Node) → ℕ → Bool → Type 0
+NullAt g i null = (s : ℕ) (e : Expr) → Stands g s e → root s e ≡ i → null ≡ nullable e
+
 -- the list says of each node below i whether its part has the empty word
 unfoldable pub Nulls : (ℕ → Node) → List Bool → ℕ → Type 0
-Nulls g nulls i = (j : ℕ) → j < i → (s : ℕ) (e : Expr) → Stands g s e → root s e ≡ j → getD nulls j false ≡ nullable e
+Nulls g nulls i = (j : ℕ) → j < i → NullAt g j (getD nulls j false)
 
 -- a part stands at the nodes s to i, and all is known that a walk over it needs
 pub record Ready (g : ℕ → Node) (nulls : List Bool) (s i : ℕ) : Type 0 where
