@@ -1,4 +1,5 @@
 -- The laws that belong to no one function.
+mod Answers
 mod Blocks
 mod Bounds
 mod Bytes

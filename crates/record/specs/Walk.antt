@@ -8,8 +8,9 @@ use Rattle.meaning.specs.Expr.{Expr, root}
 use Rattle.meaning.specs.Node.{Node, Stands}
 use Rattle.meaning.specs.Normal.{nullable}
 use Rattle.meaning.specs.Reading.{Item, Reading}
-use Rattle.meaning.specs.Record.{itemNumber}
+use Rattle.meaning.specs.Record.{itemNumber, recordBytes}
 use Rattle.procedure.specs.Parts.{Begins}
+use Rattle.procedure.specs.Tests.{Decides}
 use Rattle.record.specs.declared.walk.Taken.{Taken}
 use Rattle.record.specs.declared.walk.Taken.the-variants.{To, Stuck}
 
@@ -80,3 +81,8 @@ pub record Ready (g : ℕ → Node) (nulls : List Bool) (s i : ℕ) : Type 0 whe
   pub part : Begins g s i
   pub small : i < 512
   pub known : Nulls g nulls (suc i)
+
+-- the answer says whether the bytes are the record of a reading of the part with the nodes 0 to i
+unfoldable pub RecordOf : (ℕ → Node) → ℕ → List ℕ → Bool → Type 0
+RecordOf g i bytes found =
+    (e : Expr) → Stands g 0 e → root 0 e ≡ i → Decides ((x : List Item) × Reading 0 e x × (bytes ≡ recordBytes x)) found
