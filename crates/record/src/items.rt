@@ -24,13 +24,33 @@ fn wide(x: u8) -> usize
 }
 
 // The item at a place of the record, or NO_ITEM past the end.
-pub fn item_at(bytes: &[u8], at: usize) -> usize
+fn item_at(bytes: &[u8], at: usize) -> usize
     ensures { λ r. ⌜ r ≡ getD (itemsIn (now (bytes .entry))) at noItem ⌝ }
 {
     if at < bytes.len() / 2 {
         return wide(bytes[2 * at]) + 256 * wide(bytes[2 * at + 1]);
     }
     NO_ITEM
+}
+
+// A record and a place in it.
+pub struct Reader<'a> {
+    pub bytes: &'a [u8],
+    pub at: usize,
+}
+
+// The item at the reader's place, or NO_ITEM past the end.
+fn next<'a>(reader: Reader<'a>) -> usize
+    ensures { λ r. ⌜ r ≡ getD (itemsIn (now (reader .entry .bytes))) (reader .entry .at) noItem ⌝ }
+{
+    item_at(reader.bytes, reader.at)
+}
+
+// One item of the record. Every item that is taken is taken here.
+pub fn read_item(bytes: &[u8], at: usize) -> usize
+    ensures { λ r. ⌜ r ≡ getD (itemsIn (now (bytes .entry))) at noItem ⌝ }
+{
+    next(Reader { bytes, at })
 }
 
 // Whether the item names one of the nodes s to i.

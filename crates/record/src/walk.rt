@@ -77,7 +77,7 @@ pub fn take(
     let mut i = node;
     let mut at = place;
     loop {
-        let item = items::item_at(bytes, at);
+        let item = items::read_item(bytes, at);
         if !items::inside(item, s, i) {
             return to_if(nulls[i], at);
         }
@@ -126,7 +126,7 @@ fn take_blocks(
     let mut at = place;
     let mut k: usize = 0;
     loop {
-        if items::item_at(bytes, at) != i + items::OPENING {
+        if items::read_item(bytes, at) != i + items::OPENING {
             return to_if(may_stop(nodes[i], nulls[i - 1], k), at);
         }
         let Taken::To(next) = take(nodes, nulls, bytes, s, i - 1, at + 1) else {
@@ -136,7 +136,7 @@ fn take_blocks(
         if next == at + 1 {
             return Taken::Stuck;
         }
-        if items::item_at(bytes, next) != i + items::CLOSING {
+        if items::read_item(bytes, next) != i + items::CLOSING {
             return Taken::Stuck;
         }
         at = next + 1;

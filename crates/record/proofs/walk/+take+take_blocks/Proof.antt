@@ -28,7 +28,7 @@ use Rattle.record.proofs.walk.+take+take_blocks.Lts-take_blocks as take
 use Rattle.procedure.proofs.entry.kind_of.Reads as kind-of-reads
 use Rattle.procedure.proofs.entry.left_of.Reads as left-of-reads
 use Rattle.record.proofs.items.inside.Reads as inside-reads
-use Rattle.record.proofs.items.item_at.Reads as item-at-reads
+use Rattle.record.proofs.items.read_item.Reads as read-item-reads
 use Rattle.record.proofs.walk.may_stop.Reads as may-stop-reads
 use Rattle.record.proofs.walk.to_if.Reads as to-if-reads
 use Rattle.record.proofs.walk.+take+take_blocks.{statement}
@@ -57,8 +57,8 @@ take-blocks-below t =
 -- what is asked and learnt at each call
 abbrev take-calls : ℕ → take-lts.Claims
 take-calls t = (
-  item-at-reads.Asked,
-  item-at-reads.Learnt,
+  read-item-reads.Asked,
+  read-item-reads.Learnt,
   inside-reads.Asked,
   inside-reads.Learnt,
   to-if-reads.Asked,
@@ -75,8 +75,8 @@ take-calls t = (
 
 abbrev block-calls : ℕ → take-blocks-lts.Claims
 block-calls t = (
-  item-at-reads.Asked,
-  item-at-reads.Learnt,
+  read-item-reads.Asked,
+  read-item-reads.Learnt,
   may-stop-reads.Asked,
   may-stop-reads.Learnt,
   to-if-reads.Asked,
@@ -105,7 +105,7 @@ take-items a = itemsIn (a .before .before .args .bytes .now)
 
 -- the item is inside the part
 inside-part : (t : ℕ) (c : take-lts.Else1 (take-calls t) (take-at t) take.Post take-Inv-loop take-μ-loop)
-    → Inside (c .before .before .before .loop .s) (c .before .before .before .loop .i) (c .before .before .item-at .result)
+    → Inside (c .before .before .before .loop .s) (c .before .before .before .loop .i) (c .before .before .read-item .result)
 inside-part t c = decided _ (c .before .inside .result) (c .before .inside .ensures) (not-false _ (c .if1 .left))
 
 -- the part of a node with two children
@@ -130,8 +130,8 @@ right-ready t c =
 take-loop-holds : (t : ℕ) → take-lts.Need-loop-holds (take-calls t) (take-at t) take.Post take-Inv-loop take-μ-loop
 take-loop-holds t c = (c .before .pre .1 .0, c .before .pre .1 .1, omega arith, omega arith, λ r a. a)
 
-take-item-at-requires : (t : ℕ) → take-lts.Need-item-at-requires (take-calls t) (take-at t) take.Post take-Inv-loop take-μ-loop
-take-item-at-requires t c κs = search needs
+take-read-item-requires : (t : ℕ) → take-lts.Need-read-item-requires (take-calls t) (take-at t) take.Post take-Inv-loop take-μ-loop
+take-read-item-requires t c κs = search needs
 
 take-inside-requires : (t : ℕ) → take-lts.Need-inside-requires (take-calls t) (take-at t) take.Post take-Inv-loop take-μ-loop
 take-inside-requires t c κs = search needs
@@ -150,8 +150,8 @@ take-returns t c =
     let out = denied _ (p .inside .result) (p .inside .ensures) (not-true _ (c .before .before .if1 .taken)) in
     let r = c .to-if .result in (
       onward-ends _ (take-items a) (a .before .before .args .place) (a .loop .at) r (a .loop .inv .2) (a .loop .inv .1) (c .to-if .ensures),
-      a .loop .inv .4 r (pass-by (take-nodes a) (take-nulls a) (take-items a) (a .loop .s) (a .loop .i) (a .loop .at) (n .item-at .result) r (a .loop .inv .0)
-          (n .item-at .ensures) out (c .to-if .ensures)),
+      a .loop .inv .4 r (pass-by (take-nodes a) (take-nulls a) (take-items a) (a .loop .s) (a .loop .i) (a .loop .at) (n .read-item .result) r (a .loop .inv .0)
+          (n .read-item .ensures) out (c .to-if .ensures)),
     )
 
 take-mul-entry : (t : ℕ) → take-lts.Need-mul-entry (take-calls t) (take-at t) take.Post take-Inv-loop take-μ-loop
@@ -168,7 +168,7 @@ take-add-to-if t c =
     let e = c .before .before .before in
     let n = e .before .before in
     let a = n .before in
-    let there = item-there (take-items a) (a .loop .at) (n .item-at .result) (n .item-at .ensures) (omega (arith, inside-part t e, a .loop .inv .0 .small)) in
+    let there = item-there (take-items a) (a .loop .at) (n .read-item .result) (n .read-item .ensures) (omega (arith, inside-part t e, a .loop .inv .0 .small)) in
     omega (arith, there .0, items-length (a .before .before .args .bytes .now))
 
 take-to-if-requires-2 : (t : ℕ) → take-lts.Need-to-if-requires-2 (take-calls t) (take-at t) take.Post take-Inv-loop take-μ-loop
@@ -180,11 +180,11 @@ take-returns-2 t c =
     let e = k .before .before in
     let n = e .before .before in
     let a = n .before in
-    let there = item-there (take-items a) (a .loop .at) (n .item-at .result) (n .item-at .ensures) (omega (arith, inside-part t e, a .loop .inv .0 .small)) in
+    let there = item-there (take-items a) (a .loop .at) (n .read-item .result) (n .read-item .ensures) (omega (arith, inside-part t e, a .loop .inv .0 .small)) in
     let r = c .to-if2 .result in (
       onward-ends _ (take-items a) (a .before .before .args .place) (a .loop .at + 1) r (omega (arith, a .loop .inv .2)) (omega (arith, there .0)) (c .to-if2 .ensures),
-      a .loop .inv .4 r (leaf-takes (take-nodes a) (take-items a) (a .loop .s) (a .loop .i) (a .loop .at) (k .kind-of .result) (n .item-at .result) r (k .kind-of .ensures)
-          (c .before .if2 .taken) (a .loop .inv .0 .small) (n .item-at .ensures) (inside-part t e) (c .to-if2 .ensures)),
+      a .loop .inv .4 r (leaf-takes (take-nodes a) (take-items a) (a .loop .s) (a .loop .i) (a .loop .at) (k .kind-of .result) (n .read-item .result) r (k .kind-of .ensures)
+          (c .before .if2 .taken) (a .loop .inv .0 .small) (n .read-item .ensures) (inside-part t e) (c .to-if2 .ensures)),
     )
 
 take-take-blocks-requires : (t : ℕ) → take-lts.Need-take-blocks-requires (take-calls t) (take-at t) take.Post take-Inv-loop take-μ-loop
@@ -222,7 +222,7 @@ take-loop-again t c =
       a .loop .inv .2,
       omega (arith, ready .1, a .loop .inv .3),
       λ r b. a .loop .inv .4 r (choice-goes-left (take-nodes a) (take-items a) (a .loop .s) (a .loop .i) (a .loop .at) (k .kind-of .result) (f .left-of .result) r
-          (k .kind-of .ensures) (f .left-of .ensures) (a .loop .inv .0 .small) (n .item-at .result) (n .item-at .ensures) (c .before .before .if4 .taken) here b),
+          (k .kind-of .ensures) (f .left-of .ensures) (a .loop .inv .0 .small) (n .read-item .result) (n .read-item .ensures) (c .before .before .if4 .taken) here b),
     )
 
 take-add-s : (t : ℕ) → take-lts.Need-add-s (take-calls t) (take-at t) take.Post take-Inv-loop take-μ-loop
@@ -251,7 +251,7 @@ take-loop-again-2 t c =
       a .loop .inv .2,
       omega (arith, a .loop .inv .3),
       λ r b. a .loop .inv .4 r (choice-goes-right (take-nodes a) (take-items a) (a .loop .s) (a .loop .i) (a .loop .at) (k .kind-of .result) (f .left-of .result) r
-          (k .kind-of .ensures) (f .left-of .ensures) (a .loop .inv .0 .small) (n .item-at .result) (n .item-at .ensures) (c .before .before .if4 .taken) (inside-part t e) out b),
+          (k .kind-of .ensures) (f .left-of .ensures) (a .loop .inv .0 .small) (n .read-item .result) (n .read-item .ensures) (c .before .before .if4 .taken) (inside-part t e) out b),
     )
 
 take-take-requires : (t : ℕ) → take-lts.Need-take-requires (take-calls t) (take-at t) take.Post take-Inv-loop take-μ-loop
@@ -339,7 +339,7 @@ begins t a = ready-start (block-nodes a) (block-nulls a) (a .before .before .arg
 opening-here : (t : ℕ) (c : take-blocks-lts.Else1 (block-calls t) (take-blocks-at t) take-blocks.Post take-blocks-Inv-loop take-blocks-μ-loop) → c .before .before .loop .at < length (block-items (c .before .before))
 opening-here t c =
     let a = c .before .before in
-    item-is (block-items a) (a .loop .at) (c .before .item-at .result) (a .before .before .args .i + 4096) (c .before .item-at .ensures) (c .if1 .left)
+    item-is (block-items a) (a .loop .at) (c .before .read-item .result) (a .before .before .args .i + 4096) (c .before .read-item .ensures) (c .if1 .left)
     (omega (arith, a .before .before .pre .1 .0 .small)) .0
 
 -- what the body takes
@@ -359,7 +359,7 @@ closing-here : (t : ℕ) (c : take-blocks-lts.Else3 (block-calls t) (take-blocks
 closing-here t c =
     let x = c .before .before .before .before in
     let a = x .before .before .before .before .before in
-    item-is (block-items a) (x .next .given .0 .0) (c .before .item-at2 .result) (a .before .before .args .i + 8192) (c .before .item-at2 .ensures) (c .if3 .left)
+    item-is (block-items a) (x .next .given .0 .0) (c .before .read-item2 .result) (a .before .before .args .i + 8192) (c .before .read-item2 .ensures) (c .if3 .left)
     (omega (arith, a .before .before .pre .1 .0 .small)) .0
 
 take-blocks-loop-holds : (t : ℕ) → take-blocks-lts.Need-loop-holds (block-calls t) (take-blocks-at t) take-blocks.Post take-blocks-Inv-loop take-blocks-μ-loop
@@ -367,8 +367,8 @@ take-blocks-loop-holds t c =
     let b = c .before in
     (omega arith, b .pre .1 .1 .0, omega arith, stay-starts (held (b .args .nodes .now)) (itemsIn (b .args .bytes .now)) (b .args .s) (b .args .i) (b .args .place))
 
-take-blocks-item-at-requires : (t : ℕ) → take-blocks-lts.Need-item-at-requires (block-calls t) (take-blocks-at t) take-blocks.Post take-blocks-Inv-loop take-blocks-μ-loop
-take-blocks-item-at-requires t c κs = search needs
+take-blocks-read-item-requires : (t : ℕ) → take-blocks-lts.Need-read-item-requires (block-calls t) (take-blocks-at t) take-blocks.Post take-blocks-Inv-loop take-blocks-μ-loop
+take-blocks-read-item-requires t c κs = search needs
 
 take-blocks-add-if1 : (t : ℕ) → take-blocks-lts.Need-add-if1 (block-calls t) (take-blocks-at t) take-blocks.Post take-blocks-Inv-loop take-blocks-μ-loop
 take-blocks-add-if1 t c = omega (arith, c .before .before .before .pre .1 .0 .small)
@@ -403,7 +403,7 @@ take-blocks-returns t c =
     let ends = ends-decided _ (m .may-stop .result) (a .loop .at) r (m .may-stop .ensures) (c .to-if .ensures) in (
       onward-ends _ (block-items a) (b .args .place) (a .loop .at) r (a .loop .inv .0) (a .loop .inv .1) ends,
       stay-stops (block-nodes a) (block-items a) (b .args .s) (b .args .i) (b .args .place) (a .loop .k) (a .loop .at) (begins t a) (body t a .1) (b .pre .1 .0 .small)
-          (a .loop .inv .3) (kindOf (block-nodes a (b .args .i))) refl (b .pre .1 .1 .1) (block-nulls a) (n .item-at .result) r (body t a .0 .known) (n .item-at .ensures) (v .if1 .taken) ends,
+          (a .loop .inv .3) (kindOf (block-nodes a (b .args .i))) refl (b .pre .1 .1 .1) (block-nulls a) (n .read-item .result) r (body t a .0 .known) (n .read-item .ensures) (v .if1 .taken) ends,
     )
 
 take-blocks-sub-take : (t : ℕ) → take-blocks-lts.Need-sub-take (block-calls t) (take-blocks-at t) take-blocks.Post take-blocks-Inv-loop take-blocks-μ-loop
@@ -432,7 +432,7 @@ take-blocks-returns-2 t c =
     let stuck = subst (TakesAt (block-nodes a) (block-items a) (b .args .s) (b .args .i - 1) (a .loop .at + 1)) (c .enum-told .given .1) (d .take .ensures .1) in (
       tt,
       stuck-body (block-nodes a) (block-items a) (b .args .s) (b .args .i) (b .args .place) (a .loop .k) (a .loop .at) (begins t a) (body t a .1) (b .pre .1 .0 .small)
-          (a .loop .inv .3) (kindOf (block-nodes a (b .args .i))) refl (b .pre .1 .1 .1) (o .before .item-at .result) (o .before .item-at .ensures) (o .if1 .left) stuck,
+          (a .loop .inv .3) (kindOf (block-nodes a (b .args .i))) refl (b .pre .1 .1 .1) (o .before .read-item .result) (o .before .read-item .ensures) (o .if1 .left) stuck,
     )
 
 take-blocks-add-if2 : (t : ℕ) → take-blocks-lts.Need-add-if2 (block-calls t) (take-blocks-at t) take-blocks.Post take-blocks-Inv-loop take-blocks-μ-loop
@@ -448,12 +448,12 @@ take-blocks-returns-3 t c =
     let b = a .before .before in (
       tt,
       stuck-event (block-nodes a) (block-items a) (b .args .s) (b .args .i) (b .args .place) (a .loop .k) (a .loop .at) (begins t a) (body t a .1) (b .pre .1 .0 .small)
-          (a .loop .inv .3) (kindOf (block-nodes a (b .args .i))) refl (b .pre .1 .1 .1) (o .before .item-at .result) (o .before .item-at .ensures) (o .if1 .left)
+          (a .loop .inv .3) (kindOf (block-nodes a (b .args .i))) refl (b .pre .1 .1 .1) (o .before .read-item .result) (o .before .read-item .ensures) (o .if1 .left)
           (x .next .given .0 .0) (c .if2 .taken) (taken t x .0),
     )
 
-take-blocks-item-at-requires-2 : (t : ℕ) → take-blocks-lts.Need-item-at-requires-2 (block-calls t) (take-blocks-at t) take-blocks.Post take-blocks-Inv-loop take-blocks-μ-loop
-take-blocks-item-at-requires-2 t c κs = search needs
+take-blocks-read-item-requires-2 : (t : ℕ) → take-blocks-lts.Need-read-item-requires-2 (block-calls t) (take-blocks-at t) take-blocks.Post take-blocks-Inv-loop take-blocks-μ-loop
+take-blocks-read-item-requires-2 t c κs = search needs
 
 take-blocks-add-if3 : (t : ℕ) → take-blocks-lts.Need-add-if3 (block-calls t) (take-blocks-at t) take-blocks.Post take-blocks-Inv-loop take-blocks-μ-loop
 take-blocks-add-if3 t c = omega (arith, c .before .before .before .before .before .before .before .before .before .before .pre .1 .0 .small)
@@ -466,8 +466,8 @@ take-blocks-returns-4 t c =
     let b = a .before .before in (
       tt,
       stuck-closing (block-nodes a) (block-items a) (b .args .s) (b .args .i) (b .args .place) (a .loop .k) (a .loop .at) (begins t a) (body t a .1) (b .pre .1 .0 .small)
-          (a .loop .inv .3) (kindOf (block-nodes a (b .args .i))) refl (b .pre .1 .1 .1) (o .before .item-at .result) (o .before .item-at .ensures) (o .if1 .left)
-          (x .next .given .0 .0) (c .before .item-at2 .result) (taken t x .0) (c .before .item-at2 .ensures) (c .if3 .taken),
+          (a .loop .inv .3) (kindOf (block-nodes a (b .args .i))) refl (b .pre .1 .1 .1) (o .before .read-item .result) (o .before .read-item .ensures) (o .if1 .left)
+          (x .next .given .0 .0) (c .before .read-item2 .result) (taken t x .0) (c .before .read-item2 .ensures) (c .if3 .taken),
     )
 
 take-blocks-add-at : (t : ℕ) → take-blocks-lts.Need-add-at (block-calls t) (take-blocks-at t) take-blocks.Post take-blocks-Inv-loop take-blocks-μ-loop
@@ -501,8 +501,8 @@ take-blocks-loop-again t c =
       omega (arith, last),
       omega (arith, a .loop .inv .2, went .1 .0),
       stay-goes (block-nodes a) (block-items a) (b .args .s) (b .args .i) (b .args .place) (a .loop .k) (a .loop .at) (begins t a) (body t a .1) (b .pre .1 .0 .small)
-          (a .loop .inv .3) (o .before .item-at .result) (o .before .item-at .ensures) (o .if1 .left) next (c .before .item-at2 .result) (went .1 .1) (went .0)
-          (c .before .before .if2 .left) (c .before .item-at2 .ensures) (c .if3 .left),
+          (a .loop .inv .3) (o .before .read-item .result) (o .before .read-item .ensures) (o .if1 .left) next (c .before .read-item2 .result) (went .1 .1) (went .0)
+          (c .before .before .if2 .left) (c .before .read-item2 .ensures) (c .if3 .left),
     )
 
 pub +take+take-blocks-spec : {M : Type 1} → statement M
@@ -512,7 +512,7 @@ pub +take+take-blocks-spec : {M : Type 1} → statement M
     take-Inv-loop
     take-μ-loop
     (take-loop-holds t)
-    (take-item-at-requires t)
+    (take-read-item-requires t)
     (take-inside-requires t)
     (take-element-copy-out-to-if t)
     (take-to-if-requires t)
@@ -547,7 +547,7 @@ pub +take+take-blocks-spec : {M : Type 1} → statement M
     take-blocks-Inv-loop
     take-blocks-μ-loop
     (take-blocks-loop-holds t)
-    (take-blocks-item-at-requires t)
+    (take-blocks-read-item-requires t)
     (take-blocks-add-if1 t)
     (take-blocks-mul-may-stop t)
     (take-blocks-element-copy-out-may-stop t)
@@ -564,7 +564,7 @@ pub +take+take-blocks-spec : {M : Type 1} → statement M
     (take-blocks-returns-2 t)
     (take-blocks-add-if2 t)
     (take-blocks-returns-3 t)
-    (take-blocks-item-at-requires-2 t)
+    (take-blocks-read-item-requires-2 t)
     (take-blocks-add-if3 t)
     (take-blocks-returns-4 t)
     (take-blocks-add-at t)
