@@ -28,7 +28,9 @@ fn item_at(bytes: &[u8], at: usize) -> usize
     ensures { λ r. ⌜ r ≡ getD (itemsIn (now (bytes .entry))) at noItem ⌝ }
 {
     if at < bytes.len() / 2 {
-        return wide(bytes[2 * at]) + 256 * wide(bytes[2 * at + 1]);
+        let low = 2 * at;
+        let high = low + 1;
+        return wide(bytes[low]) + 256 * wide(bytes[high]);
     }
     NO_ITEM
 }

@@ -1,25 +1,22 @@
 -- `record::items::item_at` meets its contract, by where the items stand in the bytes. Assumes nothing.
-use mathlib.Core.Path.{_≡_, sym, _∙_}
+use mathlib.Core.Path.{_≡_, sym}
 use native.Mathlib.Omega.{arith}
 use borrow.Author.Needs.{needs}
 use Rattle.record.proofs.Bytes.{item-in, item-past}
 use Rattle.record.proofs.items.item_at.Statement.{statement}
 use Rattle.record.proofs.items.item_at.Tie as tie
 
-mul-wide : tie.Need-mul-wide
-mul-wide c = search needs
+mul-low : tie.Need-mul-low
+mul-low c = search needs
+
+add-high : tie.Need-add-high
+add-high c = search needs
 
 shared-slice-read-wide : tie.Need-shared-slice-read-wide
 shared-slice-read-wide c = search needs
 
 wide-requires : tie.Need-wide-requires
 wide-requires c κs = search needs
-
-mul-wide-2 : tie.Need-mul-wide-2
-mul-wide-2 c = search needs
-
-add-wide : tie.Need-add-wide
-add-wide c = search needs
 
 shared-slice-read-wide-2 : tie.Need-shared-slice-read-wide-2
 shared-slice-read-wide-2 c = search needs
@@ -46,11 +43,10 @@ pub item-at-spec : {M : Type 1} → statement M
 item-at-spec =
     tie.close
     (tie.spec
-    mul-wide
+    mul-low
+    add-high
     shared-slice-read-wide
     wide-requires
-    mul-wide-2
-    add-wide
     shared-slice-read-wide-2
     wide-requires-2
     mul-result
