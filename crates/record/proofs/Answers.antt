@@ -1,8 +1,8 @@
 -- From what a walk over the root takes to the answer of Check. Assumes nothing.
-use mathlib.Core.Path.{_≡_, refl, sym, ap, subst, _∙_}
+use mathlib.Core.Path.{_≡_, sym, ap, subst, _∙_}
 use mathlib.Core.Bool.{Bool, true, false}
 use mathlib.Core.List.{List, [], _∷_, _++_, map, append-nil}
-use Prim.Native.Nat.{ℕ, suc, _+_, _-_, _*_, _/_, _%_, _≤_, _<_}
+use Prim.Native.Nat.{ℕ, suc, _-_, _/_, _%_, _≤_, _<_}
 use native.Mathlib.Omega.{arith}
 use lib.ListN.{length, drop, getD, length-drop}
 use lib.Seq.{drop-length}
@@ -11,7 +11,7 @@ use Rattle.meaning.specs.declared.Refusal.{Refusal}
 use Rattle.meaning.specs.Bytes.{inTwos}
 use Rattle.meaning.specs.Expr.{Expr, event, size, root}
 use Rattle.meaning.specs.File.{Holds, count, nodeAt}
-use Rattle.meaning.specs.Node.{Node, Stands}
+use Rattle.meaning.specs.Node.{Node}
 use Rattle.meaning.specs.Promises.{Checks}
 use Rattle.meaning.specs.Reading.{Item, place, opening, closing, Reading}
 use Rattle.meaning.specs.Record.{itemNumber, recordBytes}
@@ -23,7 +23,6 @@ use Rattle.procedure.specs.declared.Opened.the-variants as opened
 use Rattle.procedure.specs.Entry.{held}
 use Rattle.procedure.specs.Opening.{Opens}
 use Rattle.procedure.specs.Parts.{Begins, OrderedBelow}
-use Rattle.record.specs.declared.walk.Taken.{Taken}
 use Rattle.record.specs.declared.walk.Taken.the-variants.{To, Stuck}
 use Rattle.record.specs.Walk.{itemsIn, from, nowhere, TakesAt, Nulls, Ready, RecordOf}
 use Rattle.record.proofs.Bytes.{AllBelow, items-length, items-of-twos, twos-length, twos-of-items}

@@ -2,14 +2,14 @@
 use mathlib.Core.Path.{_≡_, refl, sym, ap, subst, _∙_}
 use mathlib.Core.Logic.{_⊎_, inl, inr, ⊎-elim}
 use mathlib.Core.List.{List, [], _∷_, _++_, map, append-assoc, append-nil}
-use Prim.Native.Nat.{ℕ, zero, suc, _+_, _*_, _%_, _≤_, _<_}
+use Prim.Native.Nat.{ℕ, zero, suc, _+_, _≤_, _<_}
 use native.Mathlib.Omega.{arith}
-use lib.ListN.{length, length-append, length-map}
+use lib.ListN.{length, length-append}
 use Rattle.meaning.specs.Expr.{Upper, Within}
 use Rattle.meaning.specs.Lists.{Power, none, more, Times, times}
 use Rattle.meaning.specs.Reading.{Item, opening, closing, codes, Block, block}
 use Rattle.meaning.specs.Record.{itemNumber}
-use Rattle.record.specs.Walk.{Inside, Outside, Rest, from, nowhere, Eaten, Takes}
+use Rattle.record.specs.Walk.{Outside, from, nowhere, Takes}
 use Rattle.record.proofs.Takes.{map-append}
 
 -- d more blocks stand before t, which make j

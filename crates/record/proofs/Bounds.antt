@@ -4,8 +4,7 @@ use mathlib.Core.Bool.{Bool, cond}
 use Prim.Native.Nat.{ℕ, _≤_, _<_}
 use native.Mathlib.Omega.{arith}
 use borrow.Author.Tests.{eq-eqb, ne-eqb}
-use lib.Dec.{eqb}
-use Rattle.meaning.specs.Expr.{Upper, upto, endless, Within}
+use Rattle.meaning.specs.Expr.{upto, endless, Within}
 use Rattle.meaning.specs.Node.{bound}
 
 bound-none : (u : ℕ) → u ≡ 65535 → bound u ≡ endless

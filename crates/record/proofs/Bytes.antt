@@ -1,10 +1,9 @@
 -- The items in a record's bytes, and the bytes of items. Assumes nothing.
 use mathlib.Core.Path.{_≡_, refl, sym, ap, _∙_}
-use mathlib.Core.List.{List, [], _∷_, _++_, map}
-use Prim.Native.Nat.{ℕ, zero, suc, _+_, _-_, _*_, _/_, _%_, _≤_, _<_}
+use mathlib.Core.List.{List, [], _∷_}
+use Prim.Native.Nat.{ℕ, zero, suc, _+_, _*_, _/_, _%_, _≤_, _<_}
 use native.Mathlib.Omega.{arith}
 use lib.ListN.{length, drop, getD, List·getD-eq-default}
-use lib.Seq.{drop-cons}
 use native.Mathlib.Numerals.{add-one}
 use Rattle.meaning.specs.Bytes.{inTwos}
 use Rattle.record.specs.Walk.{itemsIn, noItem, Inside, Outside}

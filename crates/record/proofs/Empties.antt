@@ -1,6 +1,6 @@
 -- Which parts have the empty word: of each kind of node from its children, and the list of them, filled one by one. Assumes nothing.
 use mathlib.Core.Path.{_≡_, refl, sym, ap, ap₂, subst, _∙_}
-use mathlib.Core.Bool.{Bool, true, false, _||_, _&&_}
+use mathlib.Core.Bool.{Bool, false, _||_, _&&_}
 use mathlib.Core.List.{List}
 use Prim.Native.Nat.{ℕ, zero, suc, _+_, _-_, _≤_, _<_}
 use native.Mathlib.Omega.{arith}
@@ -9,12 +9,12 @@ use borrow.Author.Tests.{eq-eqb, ne-eqb}
 use lib.Dec.{eqb}
 use lib.ListN.{length, getD, set}
 use lib.Seq.{getD-set-same, getD-set-other}
-use Rattle.meaning.specs.Expr.{Expr, size}
+use Rattle.meaning.specs.Expr.{size}
 use Rattle.meaning.specs.Node.{Node}
 use Rattle.meaning.specs.Normal.{nullable, isZero}
 use Rattle.procedure.specs.Entry.{kindOf, leftOf, lowerOf}
 use Rattle.record.specs.Walk.{NullAt, Nulls}
-use Rattle.record.proofs.Standing.{Pair, at-leaf, at-choice, at-sequence, at-repeat}
+use Rattle.record.proofs.Standing.{at-leaf, at-choice, at-sequence, at-repeat}
 
 zero-test : (n : ℕ) → eqb n 0 ≡ isZero n
 zero-test zero = eq-eqb 0 0 refl

@@ -1,16 +1,16 @@
 -- How readings begin: the first item names a node of the part, a part has the empty reading exactly if it has the empty word, and
 -- a reading that is not empty has an event. Assumes nothing.
 use mathlib.Core.Path.{_≡_, refl, subst}
-use mathlib.Core.Logic.{_↔_, inl, inr, ⊎-elim}
-use mathlib.Core.Bool.{Bool, true, false, So, false≢true, and-eq-true-iff}
+use mathlib.Core.Logic.{inl, inr, ⊎-elim}
+use mathlib.Core.Bool.{So, false≢true, and-eq-true-iff}
 use mathlib.Core.List.{List, [], _∷_, _++_, append-eq-nil-iff}
-use Prim.Native.Nat.{ℕ, zero, suc, _+_, _≤_, _<_}
+use Prim.Native.Nat.{ℕ, _+_, _≤_}
 use native.Mathlib.Omega.{arith}
 use lib.ListN.{length}
 use Rattle.meaning.specs.Expr.{Expr, empty, event, choice, sequence, repeat, size, root, Upper, upto, endless, Within}
-use Rattle.meaning.specs.Lists.{nil, one, Or, left, right, Cat, cat, Power, none, more, Times, times}
-use Rattle.meaning.specs.Normal.{nullable, low}
-use Rattle.meaning.specs.Reading.{Item, place, opening, closing, Reading, codes, Block, block}
+use Rattle.meaning.specs.Lists.{nil, one, left, right, Cat, cat, Power, none, more, Times, times}
+use Rattle.meaning.specs.Normal.{nullable}
+use Rattle.meaning.specs.Reading.{Item, opening, closing, Reading, codes, Block, block}
 use Rattle.meaning.specs.Record.{itemNode}
 use Rattle.meaning.proofs.Facts.{so-or, low-zero, zero-low}
 use Rattle.meaning.proofs.Files.{root-size}

@@ -1,12 +1,12 @@
 -- What the repeat at a node takes, block after block: the laws of a stay at the nodes of a file. Assumes nothing.
-use mathlib.Core.Path.{_≡_, refl, sym, ap, subst, _∙_}
+use mathlib.Core.Path.{_≡_, sym, ap, subst, _∙_}
 use mathlib.Core.Bool.{Bool, false}
 use mathlib.Core.List.{List, _∷_, _++_, map}
 use Prim.Native.Nat.{ℕ, suc, _+_, _-_, _%_, _≤_, _<_}
 use native.Mathlib.Numerals.{add-one}
 use native.Mathlib.Omega.{arith}
 use lib.ListN.{length, drop, getD, length-drop}
-use Rattle.meaning.specs.Expr.{Expr, size, root, Within}
+use Rattle.meaning.specs.Expr.{Expr, root, Within}
 use Rattle.meaning.specs.Lists.{Times}
 use Rattle.meaning.specs.Node.{Node, Stands, bound}
 use Rattle.meaning.specs.Normal.{nullable, low}
@@ -15,7 +15,7 @@ use Rattle.meaning.specs.Record.{itemNumber}
 use Rattle.procedure.specs.Entry.{kindOf, lowerOf, upperOf}
 use Rattle.record.specs.declared.walk.Taken.{Taken}
 use Rattle.record.specs.declared.walk.Taken.the-variants.{To, Stuck}
-use Rattle.record.specs.Walk.{noItem, Rest, from, nowhere, Takes, restOf, TakesAt, Ends, NullAt, Nulls, Ready}
+use Rattle.record.specs.Walk.{noItem, from, Takes, restOf, TakesAt, Ends, NullAt, Nulls}
 use Rattle.record.proofs.Blocks.{Stay, stay-none, stay-more, stay-broken, stay-ended, stay-off, no-body, no-closing, no-event}
 use Rattle.record.proofs.Bytes.{item-there, begins-with}
 use Rattle.record.proofs.Heads.{reading-long}

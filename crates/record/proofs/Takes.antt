@@ -1,7 +1,7 @@
 -- What a part takes of the numbers of items: the laws of Takes for a part that is passed by, an event, a choice and a sequence.
 -- Each is over sets of readings, of which only the first item is known. Assumes nothing.
 use mathlib.Core.Path.{_≡_, refl, sym, ap, subst, _∙_}
-use mathlib.Core.List.{List, [], _∷_, _++_, map, append-assoc}
+use mathlib.Core.List.{List, [], _∷_, _++_, map}
 use Prim.Native.Nat.{ℕ, _+_, _*_, _%_, _≤_, _<_}
 use native.Mathlib.Omega.{arith}
 use Rattle.meaning.specs.Lists.{Nil, nil, One, one, Or, left, right, Cat, cat}

@@ -1,8 +1,8 @@
 -- What the part at a node takes, from what its children take: the laws of Takes at the nodes of a file. Assumes nothing.
-use mathlib.Core.Path.{_≡_, refl, sym, ap, subst, _∙_}
+use mathlib.Core.Path.{_≡_, refl, sym, subst, _∙_}
 use mathlib.Core.Bool.{Bool, true, false, So, _&&_, false≢true, and-eq-true-iff}
-use mathlib.Core.List.{List, _∷_}
-use Prim.Native.Nat.{ℕ, suc, _+_, _-_, _%_, _≤_, _<_}
+use mathlib.Core.List.{List}
+use Prim.Native.Nat.{ℕ, suc, _+_, _-_, _≤_, _<_}
 use native.Mathlib.Omega.{arith}
 use borrow.Author.Tests.{eq-eqb, eqb-true}
 use lib.Dec.{eqb}
@@ -17,11 +17,11 @@ use Rattle.procedure.specs.Parts.{Begins}
 use Rattle.procedure.specs.Tests.{Decides}
 use Rattle.record.specs.declared.walk.Taken.{Taken}
 use Rattle.record.specs.declared.walk.Taken.the-variants.{To, Stuck}
-use Rattle.record.specs.Walk.{noItem, Inside, Rest, from, nowhere, Takes, restOf, TakesAt, Onward, Ends, NullAt, Nulls, Ready}
+use Rattle.record.specs.Walk.{noItem, Inside, from, nowhere, Takes, restOf, TakesAt, Onward, Ends, NullAt, Nulls, Ready}
 use Rattle.record.proofs.Bytes.{item-there, outside-at}
 use Rattle.record.proofs.Empties.{nulls-fewer}
 use Rattle.record.proofs.Heads.{Heads, reading-heads, empty-reading, reading-empty}
-use Rattle.record.proofs.Standing.{Pair, part-start, at-leaf, at-choice, at-sequence, at-repeat, at-pair}
+use Rattle.record.proofs.Standing.{part-start, at-leaf, at-choice, at-sequence, at-repeat, at-pair}
 use Rattle.record.proofs.Takes.{takes-nothing, takes-nowhere, empty-nowhere, event-taken, event-nowhere, choice-left, choice-right, sequence-both, sequence-nowhere}
 
 -- ---- how a walk ends
@@ -125,11 +125,11 @@ leaf-takes g w s i at kind n Stuck told k small e ins ends =
 
 -- ---- a choice, and a sequence
 
-module _ (g : ℕ → Node) (w : List ℕ) (s i at kind left : ℕ) (r : Taken) (told : kind ≡ kindOf (g i)) (f : left ≡ leftOf (g i)) (small : i < 512) where
+module _ (g : ℕ → Node) (w : List ℕ) (s i at kind left : ℕ) (told : kind ≡ kindOf (g i)) (f : left ≡ leftOf (g i)) (small : i < 512) where
   module _ (n : ℕ) (e : n ≡ getD w at noItem) (k : kind ≡ 2) where
-    pub choice-goes-left : Inside s left n → TakesAt g w s left at r → TakesAt g w s i at r
+    pub choice-goes-left : (r : Taken) → Inside s left n → TakesAt g w s left at r → TakesAt g w s i at r
     unfolding TakesAt
-    choice-goes-left ins a =
+    choice-goes-left r ins a =
         at-choice g s i kind told (λ x. Takes (Reading s x) s i (drop at w) (restOf w r)) left f k
         (λ p q t.
         let low = root-size (s + size p) q in
@@ -140,9 +140,9 @@ module _ (g : ℕ → Node) (w : List ℕ) (s i at kind left : ℕ) (r : Taken) 
         (part-heads s left p (t .first-at)) (part-heads (s + size p) (i - 1) q (t .second-at))
         n (drop at w) (drop (at + 1) w) (restOf w r) (there .1) ins (a p (t .first) (t .first-at)))
 
-    pub choice-goes-right : Inside s i n → ¬ Inside s left n → TakesAt g w (left + 1) (i - 1) at r → TakesAt g w s i at r
+    pub choice-goes-right : (r : Taken) → Inside s i n → ¬ Inside s left n → TakesAt g w (left + 1) (i - 1) at r → TakesAt g w s i at r
     unfolding TakesAt
-    choice-goes-right ins out a =
+    choice-goes-right r ins out a =
         at-choice g s i kind told (λ x. Takes (Reading s x) s i (drop at w) (restOf w r)) left f k
         (λ p q t.
         let low = root-size (s + size p) q in
@@ -155,9 +155,9 @@ module _ (g : ℕ → Node) (w : List ℕ) (s i at kind left : ℕ) (r : Taken) 
         n (drop at w) (drop (at + 1) w) (restOf w r) (there .1) ins out (b q (t .second) (t .second-at)))
 
   module _ (k : 2 ≤ kind) (no-choice : ¬ (kind ≡ 2)) (no-repeat : ¬ (kind ≡ 4)) where
-    pub sequence-goes : (next : ℕ) → TakesAt g w s left at (To next) → TakesAt g w (left + 1) (i - 1) next r → TakesAt g w s i at r
+    pub sequence-goes : (r : Taken) (next : ℕ) → TakesAt g w s left at (To next) → TakesAt g w (left + 1) (i - 1) next r → TakesAt g w s i at r
     unfolding TakesAt
-    sequence-goes next a b =
+    sequence-goes r next a b =
         at-sequence g s i kind told (λ x. Takes (Reading s x) s i (drop at w) (restOf w r)) left f k no-choice no-repeat
         (λ p q t.
         let low = root-size (s + size p) q in
@@ -168,9 +168,9 @@ module _ (g : ℕ → Node) (w : List ℕ) (s i at kind left : ℕ) (r : Taken) 
         (part-heads s left p (t .first-at)) (part-heads (s + size p) (i - 1) q (t .second-at))
         (drop at w) (drop next w) (restOf w r) (a p (t .first) (t .first-at)) (c q (t .second) (t .second-at)))
 
-    pub sequence-stuck : r ≡ Stuck → TakesAt g w s left at Stuck → TakesAt g w s i at Stuck
+    pub sequence-stuck : TakesAt g w s left at Stuck → TakesAt g w s i at Stuck
     unfolding TakesAt
-    sequence-stuck z a =
+    sequence-stuck a =
         at-sequence g s i kind told (λ x. Takes (Reading s x) s i (drop at w) nowhere) left f k no-choice no-repeat
         (λ p q t.
         let low = root-size (s + size p) q in

@@ -20,6 +20,7 @@ pub enum Taken {
     Stuck,
 }
 
+// Up to `at`, where the walk may end there.
 fn to_if(may: bool, at: usize) -> Taken
     ensures { λ r. ⌜ Ends (So may) at r ⌝ }
 {
@@ -59,7 +60,8 @@ fn may_stop(entry: u64, null: bool, k: usize) -> bool
     true
 }
 
-// The part of the nodes start to node, from place `at` on. The loop narrows the part; a call of itself is for the left of a sequence.
+// What the part of the nodes `start` to `node` takes from `place` on. The loop narrows the part; only the left of a sequence and the
+// body of a repeat are walks of their own.
 pub fn take(
     nodes: &[u64; 512],
     nulls: &[bool; 512],
@@ -108,7 +110,7 @@ pub fn take(
     }
 }
 
-// The repeat at node i, from place `place` on: block after block.
+// What the repeat at node i, whose part begins at node s, takes from `place` on: block after block.
 fn take_blocks(
     nodes: &[u64; 512],
     nulls: &[bool; 512],

@@ -1,5 +1,5 @@
 -- `record::check` meets its contract, by what was read of the file and what was found of the record. Assumes nothing.
-use mathlib.Core.Path.{_≡_, subst}
+use mathlib.Core.Path.{subst}
 use mathlib.Core.List.{List}
 use Prim.Native.Nat.{ℕ}
 use borrow.Author.Needs.{needs}

@@ -1,5 +1,5 @@
 -- `record::items::item_at` meets its contract, by where the items stand in the bytes. Assumes nothing.
-use mathlib.Core.Path.{_≡_, sym}
+use mathlib.Core.Path.{sym}
 use native.Mathlib.Omega.{arith}
 use borrow.Author.Needs.{needs}
 use Rattle.record.proofs.Bytes.{item-in, item-past}

@@ -1,5 +1,4 @@
 -- `record::nulls::null_at` meets its contract, kind by kind. Assumes nothing.
-use mathlib.Core.Path.{_≡_}
 use Prim.Native.Nat.{ℕ, _≤_, _<_}
 use native.Mathlib.Omega.{arith}
 use borrow.Author.Needs.{needs}

@@ -1,7 +1,7 @@
 -- The proof of the cycle of calls {take, take_blocks}: a walk over the part of node i calls itself at lower nodes, and the walk over
 -- the blocks of a repeat calls it at the body. The loops' invariants: whatever the narrowed part takes, the whole takes; and so
 -- many blocks so far, and any blocks are these and more. Assumes nothing.
-use mathlib.Core.Path.{_≡_, refl, sym, subst, _∙_}
+use mathlib.Core.Path.{refl, sym, subst, _∙_}
 use mathlib.Core.Bool.{Bool}
 use mathlib.Core.List.{List}
 use Prim.Native.Nat.{ℕ, _+_, _-_, _*_, _≤_, _<_}
@@ -221,8 +221,8 @@ take-loop-again t c =
       a .loop .inv .1,
       a .loop .inv .2,
       omega (arith, ready .1, a .loop .inv .3),
-      λ r b. a .loop .inv .4 r (choice-goes-left (take-nodes a) (take-items a) (a .loop .s) (a .loop .i) (a .loop .at) (k .kind-of .result) (f .left-of .result) r
-          (k .kind-of .ensures) (f .left-of .ensures) (a .loop .inv .0 .small) (n .read-item .result) (n .read-item .ensures) (c .before .before .if4 .taken) here b),
+      λ r b. a .loop .inv .4 r (choice-goes-left (take-nodes a) (take-items a) (a .loop .s) (a .loop .i) (a .loop .at) (k .kind-of .result) (f .left-of .result)
+          (k .kind-of .ensures) (f .left-of .ensures) (a .loop .inv .0 .small) (n .read-item .result) (n .read-item .ensures) (c .before .before .if4 .taken) r here b),
     )
 
 take-add-s : (t : ℕ) → take-lts.Need-add-s (take-calls t) (take-at t) take.Post take-Inv-loop take-μ-loop
@@ -250,8 +250,8 @@ take-loop-again-2 t c =
       a .loop .inv .1,
       a .loop .inv .2,
       omega (arith, a .loop .inv .3),
-      λ r b. a .loop .inv .4 r (choice-goes-right (take-nodes a) (take-items a) (a .loop .s) (a .loop .i) (a .loop .at) (k .kind-of .result) (f .left-of .result) r
-          (k .kind-of .ensures) (f .left-of .ensures) (a .loop .inv .0 .small) (n .read-item .result) (n .read-item .ensures) (c .before .before .if4 .taken) (inside-part t e) out b),
+      λ r b. a .loop .inv .4 r (choice-goes-right (take-nodes a) (take-items a) (a .loop .s) (a .loop .i) (a .loop .at) (k .kind-of .result) (f .left-of .result)
+          (k .kind-of .ensures) (f .left-of .ensures) (a .loop .inv .0 .small) (n .read-item .result) (n .read-item .ensures) (c .before .before .if4 .taken) r (inside-part t e) out b),
     )
 
 take-take-requires : (t : ℕ) → take-lts.Need-take-requires (take-calls t) (take-at t) take.Post take-Inv-loop take-μ-loop
@@ -275,8 +275,8 @@ take-returns-4 t c =
     let a = k .before .before .before .before .before in
     let stuck = subst (TakesAt (take-nodes a) (take-items a) (a .loop .s) (f .left-of .result) (a .loop .at)) (c .enum-told .given .1) (d .take .ensures .1) in (
       tt,
-      a .loop .inv .4 Stuck (sequence-stuck (take-nodes a) (take-items a) (a .loop .s) (a .loop .i) (a .loop .at) (k .kind-of .result) (f .left-of .result) Stuck
-          (k .kind-of .ensures) (f .left-of .ensures) (a .loop .inv .0 .small) (f .before .before .if2 .left) (d .before .if4 .left) (f .before .if3 .left) refl stuck),
+      a .loop .inv .4 Stuck (sequence-stuck (take-nodes a) (take-items a) (a .loop .s) (a .loop .i) (a .loop .at) (k .kind-of .result) (f .left-of .result)
+          (k .kind-of .ensures) (f .left-of .ensures) (a .loop .inv .0 .small) (f .before .before .if2 .left) (d .before .if4 .left) (f .before .if3 .left) stuck),
     )
 
 take-add-s-2 : (t : ℕ) → take-lts.Need-add-s-2 (take-calls t) (take-at t) take.Post take-Inv-loop take-μ-loop
@@ -305,8 +305,8 @@ take-loop-again-3 t c =
       on .1,
       omega (arith, on .0, a .loop .inv .2),
       omega (arith, a .loop .inv .3),
-      λ r b. a .loop .inv .4 r (sequence-goes (take-nodes a) (take-items a) (a .loop .s) (a .loop .i) (a .loop .at) (k .kind-of .result) (f .left-of .result) r
-          (k .kind-of .ensures) (f .left-of .ensures) (a .loop .inv .0 .small) (f .before .before .if2 .left) (d .before .if4 .left) (f .before .if3 .left) next goes b),
+      λ r b. a .loop .inv .4 r (sequence-goes (take-nodes a) (take-items a) (a .loop .s) (a .loop .i) (a .loop .at) (k .kind-of .result) (f .left-of .result)
+          (k .kind-of .ensures) (f .left-of .ensures) (a .loop .inv .0 .small) (f .before .before .if2 .left) (d .before .if4 .left) (f .before .if3 .left) r next goes b),
     )
 
 abbrev take-blocks-Inv-loop : take-blocks-lts.InvT-loop
