@@ -10,19 +10,19 @@ use Rattle.meaning.specs.declared.CheckAnswer.the-variants as answer
 use Rattle.meaning.specs.declared.Refusal.{Refusal}
 use Rattle.meaning.specs.Bytes.{inTwos}
 use Rattle.meaning.specs.Expr.{Expr, event, size, root}
-use Rattle.meaning.specs.File.{Holds, count, nodeAt}
 use Rattle.meaning.specs.Node.{Node}
 use Rattle.meaning.specs.Promises.{Checks}
 use Rattle.meaning.specs.Reading.{Item, place, opening, closing, Reading}
 use Rattle.meaning.specs.Record.{itemNumber, recordBytes}
-use Rattle.meaning.proofs.Files.{root-size, stands-same}
+use Rattle.meaning.proofs.Files.{root-size}
 use Rattle.meaning.proofs.Parts.{part-within}
 use Rattle.meaning.proofs.Records.{AllName, reading-names}
 use Rattle.procedure.specs.declared.Opened.{Opened}
 use Rattle.procedure.specs.declared.Opened.the-variants as opened
 use Rattle.procedure.specs.Entry.{held}
-use Rattle.procedure.specs.Opening.{Opens}
+use Rattle.procedure.specs.Opening.{Filled, Opens}
 use Rattle.procedure.specs.Parts.{Begins, OrderedBelow}
+use Rattle.procedure.proofs.Nodes.{nodes-counted, nodes-listed}
 use Rattle.record.specs.declared.walk.Taken.the-variants.{To, Stuck}
 use Rattle.record.specs.Walk.{itemsIn, from, nowhere, TakesAt, Nulls, Ready, RecordOf}
 use Rattle.record.proofs.Bytes.{AllBelow, items-length, items-of-twos, twos-length, twos-of-items}
@@ -95,27 +95,25 @@ checks-refused f nodes b o r told same = Checks.refused r (subst (Opens f nodes)
 
 -- the file was read as n nodes
 module _ (f nodes b : List ℕ) (o : Opened) (n : ℕ) (told : Opens f nodes o) (same : o ≡ opened.Nodes n) where
-  read : (n ≡ count f) × ((e : Expr) × Holds f e) × ((j : ℕ) → j < n → held nodes j ≡ nodeAt f j)
-  read = subst (Opens f nodes) same told
+  abbrev filled : Filled f nodes n
+  filled = subst (Opens f nodes) same told
 
   pub some-nodes : (1 ≤ n) × (n ≤ 512)
-  some-nodes =
-      let m = read .1 .1 .formed .framed .2 in
-      (omega (arith, m .0, read .0), omega (arith, m .1, read .0))
+  some-nodes = nodes-counted filled
+
+  -- the expression stands in the entries, and its root is the last
+  root-last : root 0 (filled .expr) ≡ n - 1
+  root-last = omega (arith, root-size 0 (filled .expr), nodes-listed filled .1)
 
   pub whole-stands : Begins (held nodes) 0 (n - 1)
-  whole-stands =
-      let e = read .1 .0 in
-      let lists = read .1 .1 .formed .lists in
-      let r = root-size 0 e in
-      (e, stands-same (nodeAt f) (held nodes) n 0 e (λ j l. sym (read .2 j l)) (omega (arith, lists .1, read .0)) (lists .0), omega (arith, lists .1, read .0))
+  whole-stands = (filled .expr, nodes-listed filled .0, root-last)
 
   pub checks-yes : RecordOf (held nodes) (n - 1) b true → Checks f b answer.Yes
-  unfolding RecordOf read whole-stands
-  checks-yes h = let y = h (whole-stands .0) (whole-stands .1) (whole-stands .2) in Checks.yes (read .1 .0) (y .0) (read .1 .1) (y .1) (y .2)
+  unfolding RecordOf
+  checks-yes h = let y = h (filled .expr) (nodes-listed filled .0) root-last in Checks.yes (filled .expr) (y .0) (filled .holds) (y .1) (y .2)
 
   pub checks-no : RecordOf (held nodes) (n - 1) b false → Checks f b answer.No
-  unfolding RecordOf read whole-stands
+  unfolding RecordOf
   checks-no h =
-      let y = h (whole-stands .0) (whole-stands .1) (whole-stands .2) in
-      Checks.no (read .1 .0) (read .1 .1) (λ x p e. y (x, p, e))
+      let y = h (filled .expr) (nodes-listed filled .0) root-last in
+      Checks.no (filled .expr) (filled .holds) (λ x p e. y (x, p, e))
