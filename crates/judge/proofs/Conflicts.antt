@@ -5,7 +5,7 @@ use Prim.Native.Nat.{ℕ, _+_, _≤_, _<_}
 use native.Mathlib.Omega.{arith}
 use Rattle.meaning.specs.Conflict.{Conflict, ConflictAt}
 use Rattle.meaning.specs.Expr.{Expr, empty, event, choice, sequence, repeat, size, root, Part, Whole}
-use Rattle.meaning.proofs.Parts.{part-below}
+use Rattle.meaning.proofs.Parts.{part-within}
 use Rattle.judge.specs.Lowest.{Conflicts, Names, orElse}
 use Rattle.judge.specs.declared.conflict.Found.{Found}
 use Rattle.judge.proofs.Lowest.{Either, Same, Ahead, names-same, names-either}
@@ -38,7 +38,7 @@ from-either : {R S : Conflicts} (n : ℕ) → From n R → From n S → From n (
 from-either n f g i k c = ⊎-elim (f i k c) (g i k c)
 
 at-under : (s : ℕ) (e : Expr) → Under (s + size e) (ConflictAt s e)
-at-under s e i k c x = part-below s e i (x .0) (x .1)
+at-under s e i k c x = part-within s e i (x .0) (x .1) .1
 
 at-from : (s : ℕ) (e : Expr) → From s (ConflictAt s e)
 at-from s e i k c x = part-from s e i (x .0) (x .1)
