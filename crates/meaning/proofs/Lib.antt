@@ -36,3 +36,6 @@ pub mod Followed
 pub mod Bench
 pub mod Errors
 pub mod FreeText
+pub mod Directly
+pub mod Ways
+pub mod Loosened
