@@ -1,50 +1,29 @@
-use lib.ListN.{length}
-use mathlib.Core.Path.{_≡_}
-use borrow.Author.Needs.{needs}
+-- `answers::main` is safe and ends: each buffer is lent whole. Assumes nothing.
+use Rattle.answers.proofs.Laws.{made}
 use Rattle.answers.proofs.main.Statement.{statement}
 use Rattle.answers.proofs.main.Tie as tie
 
-abbrev Inv-loop : tie.InvT-loop
-Inv-loop a₀ turns₀ a turns = length a ≡ 1048576
+slice-aggregate-answer-all : tie.Need-slice-aggregate-answer-all
+slice-aggregate-answer-all c = made 1048576 0
 
-abbrev μ-loop : tie.MeasureT-loop
-μ-loop a₀ turns₀ a turns = turns
+slice-aggregate-answer-all-2 : tie.Need-slice-aggregate-answer-all-2
+slice-aggregate-answer-all-2 c = made 1048576 0
 
-loop-holds : tie.Need-loop-holds Inv-loop μ-loop
-loop-holds c = search needs
+slice-aggregate-answer-all-3 : tie.Need-slice-aggregate-answer-all-3
+slice-aggregate-answer-all-3 c = made 1048576 0
 
-slice-aggregate-answer-one : tie.Need-slice-aggregate-answer-one Inv-loop μ-loop
-slice-aggregate-answer-one c = search needs
+answer-all-requires : tie.Need-answer-all-requires
+answer-all-requires c κs = tt
 
-answer-one-requires : tie.Need-answer-one-requires Inv-loop μ-loop
-answer-one-requires c κs = search needs
-
-sub-turns : tie.Need-sub-turns Inv-loop μ-loop
-sub-turns c = search needs
-
-loop-less : tie.Need-loop-less Inv-loop μ-loop
-loop-less c = search needs
-
-loop-again : tie.Need-loop-again Inv-loop μ-loop
-loop-again c = search needs
-
-returns : tie.Need-returns Inv-loop μ-loop
-returns c = search needs
-
-returns-2 : tie.Need-returns-2 Inv-loop μ-loop
-returns-2 c = search needs
+returns : tie.Need-returns
+returns c = tt
 
 pub main-spec : {M : Type 1} → statement M
 main-spec =
     tie.close
     (tie.spec
-    Inv-loop
-    μ-loop
-    loop-holds
-    slice-aggregate-answer-one
-    answer-one-requires
-    sub-turns
-    loop-less
-    loop-again
-    returns
-    returns-2)
+    slice-aggregate-answer-all
+    slice-aggregate-answer-all-2
+    slice-aggregate-answer-all-3
+    answer-all-requires
+    returns)
