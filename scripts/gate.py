@@ -21,6 +21,9 @@ MOST_SECONDS = 85 * 60
 QUIET_SECONDS = 60
 
 VERDICT = re.compile(r"^(\d+) passed, (\d+) failed$")
+COMPARED = re.compile(r"^(\d+) compared, (\d+) differ$", re.M)
+# Fewer comparisons than these cover too little.
+LEAST_COMPARED = 20_000
 CARGO_RESULT = re.compile(r"^test result: \w+\. (\d+) passed; (\d+) failed;", re.M)
 
 
@@ -88,6 +91,17 @@ def counted_by_rt(text):
     return passed, failed
 
 
+def counted_by_comparison(text):
+    """The numbers of a line "N compared, D differ"."""
+    found = COMPARED.findall(text)
+    if len(found) != 1:
+        raise Unfit("it says no number of comparisons")
+    compared, differ = map(int, found[0])
+    if compared < LEAST_COMPARED:
+        raise Unfit(f"it compared {compared}, and {LEAST_COMPARED} are asked for")
+    return compared - differ, differ
+
+
 def counted_by_cargo(text):
     """The sum over the test programs of one cargo package."""
     results = CARGO_RESULT.findall(text)
@@ -109,6 +123,9 @@ def parts():
     yield "every proof, must-fail edit and program", ["rt", "ci"], counted_by_rt, {}
     yield "why each must-fail edit was refused", ["python3", "scripts/must-fail-logs"], counted_by_verdict, {}
     yield "what the page of promises cites", ["python3", "scripts/promises-page"], counted_by_verdict, {}
+    yield "the program on files at the limits", ["python3", "scripts/program-cases"], counted_by_verdict, {}
+    yield "the stored cases, made anew", ["bash", "scripts/stored-cases", "--check"], counted_once, {}
+    yield "the library beside the second matcher", ["bash", "scripts/compare"], counted_by_comparison, {}
     for manifest in sorted(TOP.glob("tests/*/Cargo.toml")):
         name = manifest.parent.name
         command = ["cargo", "test", "--release", "--offline", "--manifest-path", f"tests/{name}/Cargo.toml"]

@@ -11,6 +11,7 @@ use crate::parse;
 use crate::random::Random;
 use crate::record;
 use crate::state::STATE_BYTES;
+use crate::stream;
 use crate::themes::{Theme, Theme as T, BENCH, ROUND};
 use crate::trail::{self, Trail};
 use crate::tree::{Bounds, Symbol, Tree};
@@ -18,6 +19,8 @@ use std::collections::HashMap;
 
 /// Makes one call after another.
 pub struct Maker {
+    /// The letters of the calls that it makes.
+    calls: String,
     random: Random,
     round: Vec<Theme>,
     made: usize,
@@ -25,12 +28,14 @@ pub struct Maker {
 }
 
 impl Maker {
-    pub fn new(seed: u64) -> Maker {
+    pub fn new(seed: u64, calls: &str) -> Maker {
         let round = ROUND
             .iter()
+            .filter(|(theme, _)| theme.letters().contains(|letter| calls.contains(letter)))
             .flat_map(|&(theme, count)| vec![theme; count])
             .collect();
         Maker {
+            calls: calls.to_string(),
             random: Random::new(seed),
             round,
             made: 0,
@@ -38,8 +43,17 @@ impl Maker {
         }
     }
 
-    /// The next call.
+    /// The next call; those that are not asked for are passed over.
     pub fn next(&mut self) -> Call {
+        loop {
+            let call = self.any_next();
+            if self.calls.contains(stream::letter(&call)) {
+                return call;
+            }
+        }
+    }
+
+    fn any_next(&mut self) -> Call {
         let theme = self.round[self.made % self.round.len()];
         self.made += 1;
         let turn = self.turns.entry(theme).or_default();
@@ -357,26 +371,36 @@ mod tests {
     use super::Maker;
     use crate::calls::answer;
     use crate::coverage::Coverage;
-    use crate::stream::bytes;
+    use crate::stream::{bytes, letter, LETTERS};
 
     #[test]
     fn a_seed_makes_the_same_cases_again() {
         let made = |seed: u64| {
-            let mut maker = Maker::new(seed);
+            let mut maker = Maker::new(seed, LETTERS);
             (0..300).map(|_| bytes(&maker.next())).collect::<Vec<_>>()
         };
         assert_eq!(made(5), made(5));
         assert_ne!(made(5), made(6));
     }
 
-    #[test]
-    fn two_thousand_cases_cover_every_outcome() {
-        let mut maker = Maker::new(1);
-        let mut coverage = Coverage::default();
+    fn covers(calls: &str) {
+        let mut maker = Maker::new(1, calls);
+        let mut coverage = Coverage::new(calls);
         for _ in 0..2_000 {
             let call = maker.next();
+            assert!(calls.contains(letter(&call)));
             coverage.add(&call, &answer(&call));
         }
         assert_eq!(coverage.gaps(), [""; 0]);
+    }
+
+    #[test]
+    fn two_thousand_cases_cover_every_outcome() {
+        covers(LETTERS);
+    }
+
+    #[test]
+    fn two_thousand_cases_of_one_call_cover_its_outcomes() {
+        LETTERS.split_inclusive(|_| true).for_each(covers);
     }
 }

@@ -3,6 +3,7 @@
 
 use crate::calls::{Call, Outcome};
 use crate::file;
+use crate::stream::LETTERS;
 
 /// Large sets must have each outcome this often, middling ones once; small
 /// sets are free.
@@ -10,7 +11,7 @@ const OFTEN: usize = 50;
 const LARGE_SET: usize = 20_000;
 const MIDDLING_SET: usize = 2_000;
 
-/// Each call with the answers that it can give.
+/// Each call with the answers that it can give, in the order of `LETTERS`.
 const ANSWERS: [(&str, &[u32]); 5] = [
     ("Judge", &[0, 1, 2, 3, 4, 5, 6, 7]),
     ("Follow", &[0, 1, 2, 3, 4, 5, 6, 7, 8]),
@@ -20,11 +21,14 @@ const ANSWERS: [(&str, &[u32]); 5] = [
 ];
 
 const VERDICTS: [&str; 3] = ["complete", "unfinished", "broken"];
-const KINDS: [&str; 4] = ["choice", "skipped left", "sequence", "repeat"];
+const CHECKS: [&str; 2] = ["no", "yes"];
+const KINDS: [&str; 4] = ["kind 1", "kind 2", "kind 3", "kind 4"];
 
 /// The counts of one set of cases.
 #[derive(Default)]
 pub struct Coverage {
+    /// The letters of the calls that the set is to cover.
+    calls: String,
     cases: usize,
     answers: [[usize; 12]; 5],
     verdicts: [usize; 3],
@@ -35,6 +39,13 @@ pub struct Coverage {
 }
 
 impl Coverage {
+    pub fn new(calls: &str) -> Coverage {
+        Coverage {
+            calls: calls.to_string(),
+            ..Coverage::default()
+        }
+    }
+
     pub fn add(&mut self, call: &Call, outcome: &Outcome) {
         self.cases += 1;
         let row = match *outcome {
@@ -73,48 +84,49 @@ impl Coverage {
         count.1 += usize::from(nested);
     }
 
-    /// Every count that must not be too low, with its name.
-    fn counts(&self) -> Vec<(String, usize)> {
-        let mut counts = Vec::new();
-        for ((call, answers), row) in ANSWERS.iter().zip(&self.answers) {
-            let told = |answer: &u32| (format!("{call} {answer}"), row[*answer as usize]);
-            counts.extend(answers.iter().map(told));
+    /// What is counted of the calls that the set is to cover.
+    fn rows(&self) -> Vec<Row> {
+        let mut rows = Vec::new();
+        let counted = ANSWERS.iter().zip(&self.answers);
+        for (letter, ((heading, answers), counts)) in LETTERS.chars().zip(counted) {
+            let told = |answer: &u32| (answer.to_string(), counts[*answer as usize]);
+            rows.push(Row {
+                letter,
+                heading,
+                counts: answers.iter().map(told).collect(),
+            });
         }
-        let named = |names: &[&str], call: &str, numbers: &[usize]| {
-            let pairs = names.iter().zip(numbers);
-            pairs
-                .map(|(name, number)| (format!("{call} {name}"), *number))
-                .collect::<Vec<_>>()
-        };
-        counts.extend(named(&VERDICTS, "Follow", &self.verdicts));
-        counts.extend(named(&["no", "yes"], "Check", &self.checks));
-        counts.extend(named(&KINDS, "Judge conflict", &self.kinds));
-        counts
+        rows.push(Row::of('F', "verdicts", &VERDICTS, &self.verdicts));
+        rows.push(Row::of('C', "checks", &CHECKS, &self.checks));
+        rows.push(Row::of('J', "conflicts", &KINDS, &self.kinds));
+        rows.retain(|row| self.calls.contains(row.letter));
+        rows
+    }
+
+    /// The calls that nested repeats are asked of, with all their cases and
+    /// those on admitted files with such repeats.
+    fn nested(&self) -> Vec<(&'static str, usize, usize)> {
+        let counted = [('F', "Follow"), ('W', "Write")].iter().zip(self.nested);
+        counted
+            .filter(|((letter, _), _)| self.calls.contains(*letter))
+            .map(|((_, call), (all, nested))| (*call, all, nested))
+            .collect()
     }
 
     /// The table as text.
     pub fn table(&self) -> String {
         let mut text = String::new();
-        for ((call, answers), row) in ANSWERS.iter().zip(&self.answers) {
-            let cells: Vec<String> = answers
+        for Row {
+            heading, counts, ..
+        } in self.rows()
+        {
+            let cells: Vec<String> = counts
                 .iter()
-                .map(|&answer| format!("{answer}: {}", row[answer as usize]))
+                .map(|(name, count)| format!("{name}: {count}"))
                 .collect();
-            text += &format!("{call:<7} {}\n", cells.join(", "));
+            text += &format!("{heading:<9} {}\n", cells.join(", "));
         }
-        text += &format!(
-            "verdicts  complete: {}, unfinished: {}, broken: {}\n",
-            self.verdicts[0], self.verdicts[1], self.verdicts[2]
-        );
-        text += &format!(
-            "checks    yes: {}, no: {}\n",
-            self.checks[1], self.checks[0]
-        );
-        text += &format!(
-            "conflicts kind 1: {}, 2: {}, 3: {}, 4: {}\n",
-            self.kinds[0], self.kinds[1], self.kinds[2], self.kinds[3]
-        );
-        for (call, (all, nested)) in ["Follow", "Write"].iter().zip(self.nested) {
+        for (call, all, nested) in self.nested() {
             text += &format!("{call} on admitted files with nested repeats: {nested} of {all}\n");
         }
         text
@@ -127,14 +139,17 @@ impl Coverage {
             MIDDLING_SET.. => 1,
             _ => return Vec::new(),
         };
-        let low = self
-            .counts()
-            .into_iter()
-            .filter(|(_, count)| *count < least);
-        let mut gaps: Vec<String> = low
-            .map(|(name, count)| format!("{name}: {count} of at least {least}"))
-            .collect();
-        for (call, (all, nested)) in ["Follow", "Write"].iter().zip(self.nested) {
+        let mut gaps = Vec::new();
+        for Row {
+            heading, counts, ..
+        } in self.rows()
+        {
+            let low = counts.into_iter().filter(|(_, count)| *count < least);
+            gaps.extend(
+                low.map(|(name, count)| format!("{heading} {name}: {count} of at least {least}")),
+            );
+        }
+        for (call, all, nested) in self.nested() {
             if 3 * nested < all {
                 gaps.push(format!(
                     "{call}: under a third on admitted files with nested repeats"
@@ -142,5 +157,23 @@ impl Coverage {
             }
         }
         gaps
+    }
+}
+
+/// One line of the table: outcomes of one call, each with its count.
+struct Row {
+    letter: char,
+    heading: &'static str,
+    counts: Vec<(String, usize)>,
+}
+
+impl Row {
+    fn of(letter: char, heading: &'static str, names: &[&str], counts: &[usize]) -> Row {
+        let names = names.iter().map(|name| name.to_string());
+        Row {
+            letter,
+            heading,
+            counts: names.zip(counts.iter().copied()).collect(),
+        }
     }
 }

@@ -34,7 +34,7 @@ use std::fs::File;
 use std::io::{BufReader, BufWriter, Write};
 use std::process::ExitCode;
 
-const USAGE: &str = "usage: matcher make SEED CASES STREAM EXPECTED
+const USAGE: &str = "usage: matcher make SEED CASES STREAM EXPECTED [CALLS]
        matcher compare EXPECTED ACTUAL
        matcher horizon";
 
@@ -42,7 +42,12 @@ fn main() -> ExitCode {
     let words: Vec<String> = std::env::args().skip(1).collect();
     let words: Vec<&str> = words.iter().map(String::as_str).collect();
     let done = match words[..] {
-        ["make", seed, cases, stream, expected] => make(seed, cases, stream, expected),
+        ["make", seed, cases, stream, expected] => {
+            make(seed, cases, stream, expected, stream::LETTERS)
+        }
+        ["make", seed, cases, stream, expected, calls] => {
+            make(seed, cases, stream, expected, calls)
+        }
         ["compare", expected, actual] => compare(expected, actual),
         ["horizon"] => horizon(),
         _ => Err(USAGE.to_string()),
@@ -57,26 +62,32 @@ fn main() -> ExitCode {
 }
 
 /// Writes a stream of calls and the lines that they must give.
-fn make(seed: &str, cases: &str, stream: &str, expected: &str) -> Result<(), String> {
+fn make(seed: &str, cases: &str, stream: &str, expected: &str, calls: &str) -> Result<(), String> {
     let seed: u64 = seed.parse().map_err(|_| format!("{seed} is no seed"))?;
     let cases: usize = cases
         .parse()
         .map_err(|_| format!("{cases} is no number of cases"))?;
-    println!("seed {seed}, {cases} cases, readings listed up to {HORIZON} events");
-    let mut maker = cases::Maker::new(seed);
-    let mut coverage = coverage::Coverage::default();
-    let (mut calls, mut lines) = (create(stream)?, create(expected)?);
+    if calls.is_empty() || !calls.chars().all(|call| stream::LETTERS.contains(call)) {
+        return Err(format!(
+            "{calls} is no list of calls, some of {}",
+            stream::LETTERS
+        ));
+    }
+    println!("seed {seed}, {cases} cases of {calls}, readings listed up to {HORIZON} events");
+    let mut maker = cases::Maker::new(seed, calls);
+    let mut coverage = coverage::Coverage::new(calls);
+    let (mut bytes, mut lines) = (create(stream)?, create(expected)?);
     let failed = |error| format!("cannot write: {error}");
     for _ in 0..cases {
         let call = maker.next();
         let outcome = calls::answer(&call);
         coverage.add(&call, &outcome);
-        calls.write_all(&stream::bytes(&call)).map_err(failed)?;
+        bytes.write_all(&stream::bytes(&call)).map_err(failed)?;
         lines
             .write_all(stream::line(&outcome).as_bytes())
             .map_err(failed)?;
     }
-    calls.flush().and_then(|()| lines.flush()).map_err(failed)?;
+    bytes.flush().and_then(|()| lines.flush()).map_err(failed)?;
     print!("{}", coverage.table());
     let gaps = coverage.gaps();
     if gaps.is_empty() {

@@ -6,6 +6,14 @@ use std::fmt::Write as _;
 /// The longest slice that a stream may hold.
 pub const MOST_SLICE: usize = 1_048_576;
 
+/// The letters of the five calls.
+pub const LETTERS: &str = "JFWCP";
+
+/// A call's letter.
+pub fn letter(call: &Call) -> char {
+    char::from(slices(call).0)
+}
+
 /// A call's letter and its slices, in the order of the stream.
 fn slices(call: &Call) -> (u8, Vec<&[u8]>) {
     match call {

@@ -1,5 +1,7 @@
 //! What cases are about, and how often.
 
+use crate::stream::LETTERS;
+
 /// What a case is about.
 #[derive(Clone, Copy, Debug, PartialEq, Eq, Hash)]
 pub enum Theme {
@@ -40,6 +42,24 @@ pub enum Theme {
 }
 
 use Theme as T;
+
+impl Theme {
+    /// The letters of the calls that its cases make.
+    pub fn letters(self) -> &'static str {
+        match self {
+            T::Bench | T::Field | T::Limit => LETTERS,
+            T::JudgeRefused | T::JudgeSmall | T::JudgeAdmitted => "J",
+            T::JudgeConflicted | T::JudgeLarge | T::JudgeRepeats => "J",
+            T::FollowRefused | T::FollowWrongState | T::FollowNested | T::FollowBroken => "F",
+            T::FollowAdmitted | T::FollowLarge | T::FollowRepeats | T::FollowLong => "F",
+            T::WriteRefused | T::WriteNested | T::WriteBroken | T::WriteAdmitted => "W",
+            T::WriteLarge | T::WriteRepeats | T::WriteTooLong | T::WriteLongest => "W",
+            T::CheckRefused | T::CheckRecord | T::CheckChanged | T::CheckLarge => "C",
+            T::PromptRefused | T::PromptWrongState | T::PromptNested => "P",
+            T::PromptAdmitted | T::PromptLarge => "P",
+        }
+    }
+}
 
 /// How many cases of each theme a round has.
 pub const ROUND: [(Theme, usize); 34] = [

@@ -1,0 +1,51 @@
+// Answers a stream of calls from standard input, a line for each. Results are filled with junk before a call.
+mod stream; // stream.rt: letters and slices from standard input
+mod text; // text.rt: the line of an answer
+
+use libc::STDOUT_FILENO;
+use stream::read_letter;
+use stream::read_slice;
+use text::print_end;
+use text::print_number;
+
+// The longest slice.
+const MOST: usize = 1048576;
+
+const JUNK: u32 = 0xdead_beef;
+
+fn answer_judge(file: &mut [u8]) -> bool {
+    let length = read_slice(file);
+    let mut node = JUNK;
+    let mut kind = JUNK;
+    let mut code = JUNK;
+    let answer = seqp::seq_judge(&file[..length], &mut node, &mut kind, &mut code);
+    io::write_all(STDOUT_FILENO, b"J");
+    print_number(answer as u64);
+    print_number(node as u64);
+    print_number(kind as u64);
+    print_number(code as u64);
+    print_end()
+}
+
+// Answers one call by its letter, and says whether there was one. There is a buffer for each slice that a call can have.
+fn answer_one(first: &mut [u8], second: &mut [u8], third: &mut [u8]) -> bool {
+    match read_letter() {
+        b'J' => answer_judge(first),
+        _ => false,
+    }
+}
+
+// A proved loop has to end, and nothing says that a stream does: it counts its turns down from a number that no stream uses up.
+fn answer_all(first: &mut [u8], second: &mut [u8], third: &mut [u8]) {
+    let mut turns = u64::MAX;
+    while turns > 0 && answer_one(first, second, third) {
+        turns -= 1;
+    }
+}
+
+fn main() {
+    let mut first = [0u8; MOST];
+    let mut second = [0u8; MOST];
+    let mut third = [0u8; MOST];
+    answer_all(&mut first, &mut second, &mut third);
+}

@@ -1,0 +1,32 @@
+-- What the calls show is what they promise. Assumes nothing.
+use mathlib.Core.Path.{_≡_, sym, ap, _∙_}
+use mathlib.Core.List.{List}
+use Prim.Native.Nat.{ℕ, _%_, _<_}
+use native.Mathlib.Omega.{arith}
+use Rattle.meaning.specs.declared.JudgeAnswer.{JudgeAnswer}
+use Rattle.meaning.specs.declared.JudgeAnswer.the-variants as judge
+use Rattle.meaning.specs.Numbers.{JudgeNumbers, judged, judgeNumbers, row}
+use Rattle.meaning.specs.Promises.{Judges, JudgePromise}
+use Rattle.meaning.proofs.Refusals.{barred-node-small}
+use Rattle.seqp.specs.declared.numbers.Row.{Row}
+use Rattle.seqp.specs.Shown.{shown}
+
+-- the node that Judge reports is told whole
+node-small : (f : List ℕ) (a : JudgeAnswer) → Judges f a → judgeNumbers a .node < 512
+node-small f a (Judges.refused r b) = barred-node-small f r b
+node-small f a (Judges.admitted e d) = omega arith
+
+pub judge-shown : (f : List ℕ) (a : JudgeAnswer) (out : Row) → Judges f a → out ≡ shown (judgeNumbers a)
+    → JudgePromise f (judged (out .answer) (out .node) (out .kind) (out .code))
+unfolding JudgePromise
+judge-shown f a out j e =
+    let small = node-small f a j in
+    let whole : judgeNumbers a .node % 4294967296 ≡ judgeNumbers a .node = omega arith in
+    let n = judgeNumbers a in
+    let same : judged (out .answer) (out .node) (out .kind) (out .code) ≡ n =
+    ap (λ (r : Row). judged (r .answer) (r .node) (r .kind) (r .code)) e ∙ ap (λ (i : ℕ). judged (n .answer) i (n .kind) (n .code)) whole in
+    (a, j, same)
+
+-- an arm that knows which case it is in
+pub arm : {A B : Type 0} (f : A → B) {x y : A} {out : B} → x ≡ y → out ≡ f y → out ≡ f x
+arm f told out = out ∙ sym (ap f told)

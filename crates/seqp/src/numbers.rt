@@ -1,0 +1,64 @@
+// An answer as the request's numbers.
+ghost use mathlib.Core.Path.{_≡_};
+ghost use Prim.Native.Nat.{ℕ};
+ghost use Rattle.meaning.specs.Numbers.{judged, judgeNumbers, row};
+ghost use Rattle.seqp.specs.Shown.{shown};
+use meaning::JudgeAnswer;
+use meaning::Refusal;
+
+// The numbers of an answer, as C gets them.
+pub struct Row {
+    pub answer: u32,
+    pub node: u32,
+    pub kind: u32,
+    pub code: u32,
+}
+
+// The first number that a node cannot be told by.
+const WORD: usize = 4294967296;
+
+// An answer with its node, and no kind and code. A file has at most 512 nodes: the remainder is the node.
+fn row_at(answer: u32, node: usize) -> Row
+    ensures { λ r. ⌜ r ≡ shown (judged answer node 0 0) ⌝ }
+{
+    Row {
+        answer: answer,
+        node: (node % WORD) as u32,
+        kind: 0,
+        code: 0,
+    }
+}
+
+// The row of the request's table.
+pub fn row_of(refusal: Refusal) -> Row
+    ensures { λ r. ⌜ r ≡ shown (row refusal) ⌝ }
+{
+    match refusal {
+        Refusal::Size => row_at(1, 0),
+        Refusal::Letters => row_at(2, 0),
+        Refusal::Measures => row_at(3, 0),
+        Refusal::Record(node) => row_at(4, node),
+        Refusal::Order(node) => row_at(5, node),
+        Refusal::Repeats(node) => row_at(6, node),
+        Refusal::Conflict(node, kind, code) => Row {
+            answer: 7,
+            node: (node % WORD) as u32,
+            kind: kind,
+            code: code,
+        },
+        Refusal::Unreached => row_at(8, 0),
+        Refusal::Length => row_at(9, 0),
+        Refusal::Incomplete => row_at(10, 0),
+        Refusal::Room => row_at(11, 0),
+    }
+}
+
+// What Judge gives.
+pub fn of_judge(answer: JudgeAnswer) -> Row
+    ensures { λ r. ⌜ r ≡ shown (judgeNumbers answer) ⌝ }
+{
+    match answer {
+        JudgeAnswer::Admitted => row_at(0, 0),
+        JudgeAnswer::Refused(refusal) => row_of(refusal),
+    }
+}
