@@ -73,10 +73,13 @@ pub record CheckNumbers : Type 0 where
   pub answer : ℕ
   pub yes : ℕ
 
+abbrev pub checked : ℕ → ℕ → CheckNumbers
+checked a y = record { answer = a; yes = y }
+
 abbrev pub checkNumbers : CheckAnswer → CheckNumbers
-checkNumbers check.Yes = record { answer = 0; yes = 1 }
-checkNumbers check.No = record { answer = 0; yes = 0 }
-checkNumbers (check.Refused r) = record { answer = row r .answer; yes = 0 }
+checkNumbers check.Yes = checked 0 1
+checkNumbers check.No = checked 0 0
+checkNumbers (check.Refused r) = checked (row r .answer) 0
 
 -- the numbers of Prompt: 0 to 8, the set
 pub record PromptNumbers : Type 0 where

@@ -5,11 +5,13 @@ use Prim.Native.Nat.{ℕ, _%_, _<_}
 use native.Mathlib.Omega.{arith}
 use Rattle.meaning.specs.declared.JudgeAnswer.{JudgeAnswer}
 use Rattle.meaning.specs.declared.JudgeAnswer.the-variants as judge
-use Rattle.meaning.specs.Numbers.{JudgeNumbers, judged, judgeNumbers, row}
-use Rattle.meaning.specs.Promises.{Judges, JudgePromise}
+use Rattle.meaning.specs.declared.CheckAnswer.{CheckAnswer}
+use Rattle.meaning.specs.Numbers.{JudgeNumbers, checked, checkNumbers, judged, judgeNumbers, row}
+use Rattle.meaning.specs.Promises.{Checks, CheckPromise, Judges, JudgePromise}
 use Rattle.meaning.proofs.Refusals.{barred-node-small}
 use Rattle.seqp.specs.declared.numbers.Row.{Row}
-use Rattle.seqp.specs.Shown.{shown}
+use Rattle.seqp.specs.declared.numbers.CheckRow.{CheckRow}
+use Rattle.seqp.specs.Shown.{checkShown, shown}
 
 -- the node that Judge reports is told whole
 node-small : (f : List ℕ) (a : JudgeAnswer) → Judges f a → judgeNumbers a .node < 512
@@ -30,3 +32,8 @@ judge-shown f a out j e =
 -- an arm that knows which case it is in
 pub arm : {A B : Type 0} (f : A → B) {x y : A} {out : B} → x ≡ y → out ≡ f y → out ≡ f x
 arm f told out = out ∙ sym (ap f told)
+
+pub check-shown : (f bytes : List ℕ) (a : CheckAnswer) (out : CheckRow) → Checks f bytes a → out ≡ checkShown (checkNumbers a)
+    → CheckPromise f bytes (checked (out .answer) (out .yes))
+unfolding CheckPromise
+check-shown f bytes a out c e = (a, c, ap (λ (r : CheckRow). checked (r .answer) (r .yes)) e)

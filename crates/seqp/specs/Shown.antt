@@ -1,8 +1,13 @@
 -- The request's numbers as the code holds them. A model of our code, and no promise.
 use Prim.Native.Nat.{_%_}
-use Rattle.meaning.specs.Numbers.{JudgeNumbers}
+use Rattle.meaning.specs.Numbers.{CheckNumbers, JudgeNumbers}
+use Rattle.seqp.specs.declared.numbers.CheckRow.{CheckRow}
 use Rattle.seqp.specs.declared.numbers.Row.{Row}
 
 -- the numbers of an answer, the node as 32 bits
 abbrev pub shown : JudgeNumbers → Row
 shown n = record { answer = n .answer; node = n .node % 4294967296; kind = n .kind; code = n .code }
+
+-- the numbers of Check
+abbrev pub checkShown : CheckNumbers → CheckRow
+checkShown n = record { answer = n .answer; yes = n .yes }

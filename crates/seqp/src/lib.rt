@@ -1,6 +1,6 @@
 // The calls for the station's shell, as C sees them. Each gives the request's answer number and always writes its results.
-ghost use Rattle.meaning.specs.Numbers.{judged};
-ghost use Rattle.meaning.specs.Promises.{JudgePromise};
+ghost use Rattle.meaning.specs.Numbers.{checked, judged};
+ghost use Rattle.meaning.specs.Promises.{CheckPromise, JudgePromise};
 
 mod numbers; // numbers.rt: an answer as the request's numbers
 
@@ -13,5 +13,15 @@ pub extern "C" fn seq_judge(file: &[u8], node: &mut u32, kind: &mut u32, code: &
     *node = row.node;
     *kind = row.kind;
     *code = row.code;
+    row.answer
+}
+
+// Check a record: 0 to 6; 1 for yes, 0 for no.
+#[no_mangle]
+pub extern "C" fn seq_check(file: &[u8], bytes: &[u8], yes: &mut u32) -> u32
+    ensures { λ r. ⌜ CheckPromise (now (file .entry)) (now (bytes .entry)) (checked r (now (yes .exit))) ⌝ }
+{
+    let row = numbers::of_check(record::check(file, bytes));
+    *yes = row.yes;
     row.answer
 }

@@ -1,8 +1,9 @@
 // An answer as the request's numbers.
 ghost use mathlib.Core.Path.{_≡_};
 ghost use Prim.Native.Nat.{ℕ};
-ghost use Rattle.meaning.specs.Numbers.{judged, judgeNumbers, row};
-ghost use Rattle.seqp.specs.Shown.{shown};
+ghost use Rattle.meaning.specs.Numbers.{checkNumbers, judged, judgeNumbers, row};
+ghost use Rattle.seqp.specs.Shown.{checkShown, shown};
+use meaning::CheckAnswer;
 use meaning::JudgeAnswer;
 use meaning::Refusal;
 
@@ -60,5 +61,27 @@ pub fn of_judge(answer: JudgeAnswer) -> Row
     match answer {
         JudgeAnswer::Admitted => row_at(0, 0),
         JudgeAnswer::Refused(refusal) => row_of(refusal),
+    }
+}
+
+// What Check gives.
+pub struct CheckRow {
+    pub answer: u32,
+    pub yes: u32,
+}
+
+pub fn of_check(answer: CheckAnswer) -> CheckRow
+    ensures { λ r. ⌜ r ≡ checkShown (checkNumbers answer) ⌝ }
+{
+    match answer {
+        CheckAnswer::Yes => CheckRow { answer: 0, yes: 1 },
+        CheckAnswer::No => CheckRow { answer: 0, yes: 0 },
+        CheckAnswer::Refused(refusal) => {
+            let row = row_of(refusal);
+            CheckRow {
+                answer: row.answer,
+                yes: 0,
+            }
+        }
     }
 }
