@@ -1,0 +1,3 @@
+-- The laws that belong to no one function.
+mod Entries
+mod Trailer

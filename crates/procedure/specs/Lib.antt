@@ -1,0 +1,3 @@
+-- What the contracts on files and nodes cite.
+pub mod Entry
+pub mod Tests

@@ -1,0 +1,34 @@
+// The node records of a file, as entries.
+ghost use mathlib.Core.Path.{_≡_};
+ghost use Prim.Native.Nat.{_+_, _≤_, _<_};
+ghost use lib.ListN.{length};
+ghost use Rattle.meaning.specs.File.{Measured, count, recordAt};
+ghost use Rattle.procedure.specs.Entry.{Tied, packed};
+use crate::bytes;
+use crate::frame;
+
+// The record whose 8 bytes stand from `at` on.
+fn entry_at(file: &[u8], at: usize) -> u64
+    requires { ⌜ at + 7 < length (now file) ⌝ }
+    ensures { λ r. ⌜ r ≡ packed (recordAt (now (file .entry)) at) ⌝ }
+{
+    let low = bytes::wide(file[at])
+        + 256 * bytes::wide(file[at + 1])
+        + 65536 * bytes::two_at(file, at + 2);
+    low + 4294967296 * bytes::two_at(file, at + 4) + 281474976710656 * bytes::two_at(file, at + 6)
+}
+
+// The first n entries become those of the file's nodes.
+pub fn fill(file: &[u8], nodes: &mut [u64], n: usize)
+    requires { ⌜ n ≤ length (now nodes) ⌝ }
+    requires { ⌜ Measured (now file) ⌝ }
+    requires { ⌜ n ≡ count (now file) ⌝ }
+    ensures { λ _. ⌜ Tied (now (file .entry)) (now (nodes .exit)) n ⌝ }
+{
+    let first = file.len() - frame::TRAILER - frame::RECORD * n;
+    let mut i = 0;
+    while i < n {
+        nodes[i] = entry_at(file, first + frame::RECORD * i);
+        i += 1;
+    }
+}
