@@ -1,0 +1,2 @@
+-- What the contracts on runs cite.
+pub mod Table
