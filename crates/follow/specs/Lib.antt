@@ -1,2 +1,4 @@
 -- What the contracts on runs cite.
 pub mod Table
+pub mod Plan
+pub mod Counts
