@@ -1,3 +1,4 @@
 -- The laws that belong to no one function.
 mod Beginnings
 mod Counting
+mod Climbing

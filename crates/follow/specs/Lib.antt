@@ -2,3 +2,4 @@
 pub mod Table
 pub mod Plan
 pub mod Counts
+pub mod Climb

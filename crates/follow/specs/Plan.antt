@@ -8,7 +8,7 @@ use lib.ListN.{getD}
 use Rattle.meaning.specs.Expr.{Expr, empty, event, choice, sequence, repeat, size, root}
 use Rattle.meaning.specs.Node.{Stands, repeatsBelow}
 use Rattle.meaning.specs.Normal.{nullable}
-use Rattle.procedure.specs.Entry.{held}
+use Rattle.procedure.specs.Entry.{held, kindOf}
 use Rattle.follow.specs.Table.{aboveIn, beginsIn, startIn, rankIn, emptyIn}
 
 abbrev pub aboveAt : List ℕ → ℕ → ℕ
@@ -76,3 +76,11 @@ pub record Plans (nodes plan : List ℕ) (n : ℕ) (e : Expr) : Type 0 where
 -- the part of node y can begin with event node q, as the plan says it
 abbrev pub startsOf : List ℕ → ℕ → ℕ → Bool
 startsOf plan y q = leb (startAt plan y) q && (leb q y && leb y (beginsAt plan q))
+
+-- a repeat at node x has one of the 32 counters
+abbrev pub Ranked : List ℕ → List ℕ → ℕ → Type 0
+Ranked nodes plan x = kindOf (held nodes x) ≡ 4 → rankAt plan x < 32
+
+-- the plan leads upward from each of the n nodes, and each repeat has its counter
+abbrev pub Rises : List ℕ → List ℕ → ℕ → Type 0
+Rises nodes plan n = (i : ℕ) → i < n → (i < aboveAt plan i) × Ranked nodes plan i

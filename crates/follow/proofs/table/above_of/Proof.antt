@@ -9,4 +9,4 @@ unfolding aboveIn
 returns c = search needs
 
 pub above-of-spec : {M : Type 1} → statement M
-above-of-spec = tie.close (tie.spec  returns)
+above-of-spec = tie.close (tie.spec returns)

@@ -9,4 +9,4 @@ unfolding beginsIn
 returns c = search needs
 
 pub begins-of-spec : {M : Type 1} → statement M
-begins-of-spec = tie.close (tie.spec  returns)
+begins-of-spec = tie.close (tie.spec returns)

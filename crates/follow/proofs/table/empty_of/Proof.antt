@@ -9,4 +9,4 @@ unfolding emptyIn
 returns c = search needs
 
 pub empty-of-spec : {M : Type 1} → statement M
-empty-of-spec = tie.close (tie.spec  returns)
+empty-of-spec = tie.close (tie.spec returns)

@@ -9,4 +9,4 @@ unfolding rankIn
 returns c = search needs
 
 pub rank-of-spec : {M : Type 1} → statement M
-rank-of-spec = tie.close (tie.spec  returns)
+rank-of-spec = tie.close (tie.spec returns)

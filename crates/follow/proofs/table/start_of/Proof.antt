@@ -9,4 +9,4 @@ unfolding startIn
 returns c = search needs
 
 pub start-of-spec : {M : Type 1} → statement M
-start-of-spec = tie.close (tie.spec  returns)
+start-of-spec = tie.close (tie.spec returns)
