@@ -11,8 +11,8 @@ use lib.Dec.{eqb, leb, ltb}
 use lib.ListN.{length, getD, set, length-set}
 use lib.Seq.{getD-set-other}
 use Rattle.procedure.specs.Entry.{held, kindOf, lowerOf, upperOf}
-use Rattle.follow.specs.Plan.{startAt, beginsAt, rankAt, emptyAt, startsOf}
-use Rattle.follow.specs.Counts.{marked, Cleared, oneMore, raised}
+use Rattle.follow.specs.Plan.{aboveAt, startAt, beginsAt, rankAt, emptyAt, startsOf}
+use Rattle.follow.specs.Counts.{marked, Sets, next, Cleared, oneMore, raised, Turned}
 
 -- the first of two, by a test that holds; and the second, by one that does not
 pub taken : {A : Type 0} (b : Bool) (x y : A) → b ≡ true → x ≡ cond b x y
@@ -117,3 +117,16 @@ cleared-all from to i c d h m w = record {
     side : (j : ℕ) → to ≤ j → Dec (i ≤ j) → (j < from) ⊎ (i ≤ j)
     side j l (yes p) = inr p
     side j l (no p) = inl (omega arith)
+
+pub cleared-as : {a b i j : ℕ} {c d : List ℕ} → a ≡ i → b ≡ j → Cleared a b c d → Cleared i j c d
+cleared-as {a} {b} {i} {j} {c} {d} e f w = subst (λ (k : ℕ). Cleared i k c d) f (subst (λ (k : ℕ). Cleared k b c d) e w)
+
+pub set-one : {nodes plan : List ℕ} {x y u : ℕ} {c l z : List ℕ} → y < x → u ≡ aboveAt plan y → l ≡ marked nodes plan y c → Sets nodes plan x u l z
+    → Sets nodes plan x y c z
+set-one {nodes} {plan} {x} {y} {u} {c} {l} {z} h e f w =
+    next h (subst (λ (k : List ℕ). Sets nodes plan x (aboveAt plan y) k z) f (subst (λ (i : ℕ). Sets nodes plan x i l z) e w))
+
+pub turned-by : {nodes plan : List ℕ} {x q : ℕ} {c z l d : List ℕ} → Cleared (rankAt plan (startAt plan x)) (rankAt plan x) c z → l ≡ raised nodes plan x z
+    → Sets nodes plan x (aboveAt plan q) l d
+    → Turned nodes plan x q c d
+turned-by {nodes} {plan} {x} {q} {c} {z} {l} {d} w e s = (z, w, subst (λ (k : List ℕ). Sets nodes plan x (aboveAt plan q) k d) e s)

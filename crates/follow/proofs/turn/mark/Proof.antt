@@ -1,10 +1,11 @@
+use Rattle.follow.proofs.Tests.{set-one}
 use mathlib.Core.Path.{subst}
 use native.Mathlib.Omega.{arith}
 use borrow.Author.Needs.{needs}
 use mathlib.Core.List.{List}
 use Prim.Native.Nat.{ℕ, _-_}
 use Rattle.follow.specs.Plan.{aboveAt}
-use Rattle.follow.specs.Counts.{Sets, done, next}
+use Rattle.follow.specs.Counts.{Sets, done}
 use Rattle.follow.proofs.turn.mark.Statement.{statement}
 use Rattle.follow.proofs.turn.mark.Tie as tie
 
@@ -52,15 +53,9 @@ loop-less c =
     omega (arith, c .above-of2 .ensures .0)
 
 loop-again : tie.Need-loop-again Inv-loop μ-loop
-loop-again c = 
+loop-again c =
     let in-loop = c .before .before .before .before in
-    let at = in-loop .before in
-    let a = at .before .before .before .args in
-    λ z w.
-        at .loop .inv z
-        (next (in-loop .loop-test .taken)
-        (subst (λ (l : List ℕ). Sets (a .nodes .now) (a .plan .now) (a .x) (aboveAt (a .plan .now) (at .loop .y)) l z) (c .before .before .mark-at .ensures)
-        (subst (λ (i : ℕ). Sets (a .nodes .now) (a .plan .now) (a .x) i _ z) (c .above-of2 .ensures .0) w)))
+    λ z w. in-loop .before .loop .inv z (set-one (in-loop .loop-test .taken) (c .above-of2 .ensures .0) (c .before .before .mark-at .ensures) w)
 
 returns : tie.Need-returns Inv-loop μ-loop
 returns c = c .before .loop .inv _ (done (c .loop-test .left))

@@ -15,7 +15,7 @@ kind-of-requires : tie.Need-kind-of-requires
 kind-of-requires c κs = search needs
 
 returns : tie.Need-returns
-returns c = marked-not _ _ _ _ (λ e. c .if1 .taken (c .before .kind-of .ensures ∙ e))
+returns c = let a = c .before .before .before .args in marked-not (a .nodes .now) (a .plan .now) _ (a .y) (λ e. c .if1 .taken (c .before .kind-of .ensures ∙ e))
 
 mul-rank-of : tie.Need-mul-rank-of
 mul-rank-of c = search needs

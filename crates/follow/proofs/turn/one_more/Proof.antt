@@ -18,9 +18,11 @@ up-to-requires : tie.Need-up-to-requires
 up-to-requires c κs = search needs
 
 returns : tie.Need-returns
-returns c = 
+returns c =
     let at = c .before .before .before .before in
-    one-more-endless _ _ _ _ _ _ _ (sym (at .upper-of .ensures) ∙ c .before .before .before .if1 .taken) (c .before .before .lower-of .ensures) (c .before .cap .ensures) (c .up-to .ensures)
+    let a = at .before .args in
+    one-more-endless (a .empties) _ _ (a .c) _ _ _ (sym (at .upper-of .ensures) ∙ c .before .before .before .if1 .taken) (c .before .before .lower-of .ensures)
+    (c .before .cap .ensures) (c .up-to .ensures)
 
 add-result : tie.Need-add-result
 add-result c = search needs

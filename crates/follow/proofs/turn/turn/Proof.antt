@@ -1,26 +1,19 @@
+use Rattle.follow.proofs.Tests.{turned-by}
+use native.Mathlib.Omega.{arith}
 use Rattle.follow.proofs.turn.turn.Statement.{statement}
 use Rattle.follow.proofs.turn.turn.Tie as tie
-use Rattle.follow.proofs.turn.turn.Reads as reads
-use Rattle.follow.proofs.turn.turn.Lts as lts
-use Rattle.follow.proofs.turn.clear_part.Reads as clear-part-reads
-use Rattle.follow.proofs.turn.mark.Reads as mark-reads
-use Rattle.follow.proofs.turn.raise.Reads as raise-reads
 
--- src/turn.rt:123:5
 clear-part-requires : tie.Need-clear-part-requires
-clear-part-requires c κs = ?
+clear-part-requires c κs = let start = c .before in (omega arith, start .pre .1 .1 .1 (start .args .x) (omega arith))
 
--- src/turn.rt:124:5
 raise-requires : tie.Need-raise-requires
-raise-requires c κs = ?
+raise-requires c κs = let start = c .before .before .before in (omega arith, (omega arith, start .pre .1 .1 .1 (start .args .x) (omega arith) .counted))
 
--- src/turn.rt:125:5
 mark-requires : tie.Need-mark-requires
-mark-requires c κs = ?
+mark-requires c κs = let start = c .before .before .before .before .before in (omega arith, (omega arith, λ i h. start .pre .1 .1 .1 i (omega arith)))
 
--- src/turn.rt:116:1
 returns : tie.Need-returns
-returns c = ?
+returns c = turned-by (c .before .before .before .before .clear-part .ensures) (c .before .before .raise .ensures) (c .mark .ensures)
 
 pub turn-spec : {M : Type 1} → statement M
 turn-spec = tie.close (tie.spec clear-part-requires raise-requires mark-requires returns)
