@@ -126,7 +126,7 @@ pub set-one : {nodes plan : List ℕ} {x y u : ℕ} {c l z : List ℕ} → y < x
 set-one {nodes} {plan} {x} {y} {u} {c} {l} {z} h e f w =
     next h (subst (λ (k : List ℕ). Sets nodes plan x (aboveAt plan y) k z) f (subst (λ (i : ℕ). Sets nodes plan x i l z) e w))
 
-pub turned-by : {nodes plan : List ℕ} {x q : ℕ} {c z l d : List ℕ} → Cleared (rankAt plan (startAt plan x)) (rankAt plan x) c z → l ≡ raised nodes plan x z
+pub turned-by : {nodes plan : List ℕ} {x : ℕ} (q : ℕ) {c z l d : List ℕ} → Cleared (rankAt plan (startAt plan x)) (rankAt plan x) c z → l ≡ raised nodes plan x z
     → Sets nodes plan x (aboveAt plan q) l d
     → Turned nodes plan x q c d
-turned-by {nodes} {plan} {x} {q} {c} {z} {l} {d} w e s = (z, w, subst (λ (k : List ℕ). Sets nodes plan x (aboveAt plan q) k d) e s)
+turned-by {nodes} {plan} {x} q {c} {z} {l} {d} w e s = (z, w, subst (λ (k : List ℕ). Sets nodes plan x (aboveAt plan q) k d) e s)

@@ -41,15 +41,16 @@ pub record UpTo (nodes plan : List ℕ) (i : ℕ) : Type 0 where
 abbrev pub tell : List ℕ → ℕ → ℕ → ℕ → List ℕ
 tell plan c above begins = set plan c (toldIn (getD plan c 0) above begins)
 
--- node i tells its children of the nodes above them
+-- node i, which is m, tells its children of the nodes above them
+abbrev pub linkWith : Node → List ℕ → ℕ → List ℕ
+linkWith m plan i =
+    cond (eqb (kindOf m) 4) (tell plan (i - 1) i (beginsAt plan i))
+    (cond (eqb (kindOf m) 3)
+    (tell (tell plan (leftOf m) i (beginsAt plan i)) (i - 1) (aboveAt plan i) (cond (eqb (emptyAt plan (leftOf m)) 1) (beginsAt plan i) (i - 1)))
+    (cond (eqb (kindOf m) 2) (tell (tell plan (leftOf m) (aboveAt plan i) (beginsAt plan i)) (i - 1) (aboveAt plan i) (beginsAt plan i)) plan))
+
 abbrev pub link : List ℕ → List ℕ → ℕ → List ℕ
-link nodes plan i =
-    cond (eqb (kindOf (held nodes i)) 4) (tell plan (i - 1) i (beginsAt plan i))
-    (cond (eqb (kindOf (held nodes i)) 3)
-    (tell (tell plan (leftOf (held nodes i)) i (beginsAt plan i)) (i - 1) (aboveAt plan i)
-    (cond (eqb (emptyAt plan (leftOf (held nodes i))) 1) (beginsAt plan i) (i - 1)))
-    (cond (eqb (kindOf (held nodes i)) 2)
-    (tell (tell plan (leftOf (held nodes i)) (aboveAt plan i) (beginsAt plan i)) (i - 1) (aboveAt plan i) (beginsAt plan i)) plan))
+link nodes plan i = linkWith (held nodes i) plan i
 
 -- each node below i does, downward
 abbrev pub down : List ℕ → List ℕ → ℕ → List ℕ

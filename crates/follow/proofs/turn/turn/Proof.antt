@@ -13,7 +13,7 @@ mark-requires : tie.Need-mark-requires
 mark-requires c κs = let start = c .before .before .before .before .before in (omega arith, (omega arith, λ i h. start .pre .1 .1 .1 i (omega arith)))
 
 returns : tie.Need-returns
-returns c = turned-by (c .before .before .before .before .clear-part .ensures) (c .before .before .raise .ensures) (c .mark .ensures)
+returns c = turned-by (c .before .before .before .before .before .before .args .q) (c .before .before .before .before .clear-part .ensures) (c .before .before .raise .ensures) (c .mark .ensures)
 
 pub turn-spec : {M : Type 1} → statement M
 turn-spec = tie.close (tie.spec clear-part-requires raise-requires mark-requires returns)
