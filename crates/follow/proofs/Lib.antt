@@ -6,3 +6,4 @@ mod Climbing
 mod Downward
 mod Upward
 mod Whole
+mod Links

@@ -1,40 +1,35 @@
+use mathlib.Core.Path.{ap, _∙_}
+use Rattle.follow.specs.Plan.{startAt}
 use borrow.Author.Needs.{needs}
 use Rattle.follow.proofs.plan.entry_over.Statement.{statement}
 use Rattle.follow.proofs.plan.entry_over.Tie as tie
-use Rattle.follow.proofs.plan.entry_over.Reads as reads
-use Rattle.follow.proofs.plan.entry_over.Lts as lts
-use Rattle.follow.proofs.plan.empties.Reads as empties-reads
-use Rattle.follow.proofs.table.entry_of.Reads as entry-of-reads
-use Rattle.follow.proofs.table.start_of.Reads as start-of-reads
-use Rattle.procedure.proofs.entry.left_of.Reads as left-of-reads
 
--- src/plan.rt:95:9
 left-of-requires : tie.Need-left-of-requires
 left-of-requires c κs = search needs
 
--- src/plan.rt:96:33
 mul-start-of : tie.Need-mul-start-of
 mul-start-of c = search needs
 
--- src/plan.rt:96:33
 element-copy-out-start-of : tie.Need-element-copy-out-start-of
 element-copy-out-start-of c = search needs
 
--- src/plan.rt:96:9
 start-of-requires : tie.Need-start-of-requires
 start-of-requires c κs = search needs
 
--- src/plan.rt:97:31
 empties-requires : tie.Need-empties-requires
 empties-requires c κs = search needs
 
--- src/plan.rt:97:5
 entry-of-requires : tie.Need-entry-of-requires
 entry-of-requires c κs = search needs
 
--- src/plan.rt:87:1
 returns : tie.Need-returns
-returns c = ?
+returns c = 
+    let start = c .before .before in
+    let a = start .before .before .before .args in
+    (
+      c .entry-of .ensures .0 ∙ start .start-of .ensures .0 ∙ ap (startAt (a .plan .now)) (start .before .before .left-of .ensures),
+      (c .entry-of .ensures .1 .0, c .entry-of .ensures .1 .1 ∙ c .before .empties .ensures .0),
+    )
 
 pub entry-over-spec : {M : Type 1} → statement M
 entry-over-spec =

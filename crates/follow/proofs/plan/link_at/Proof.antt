@@ -1,24 +1,21 @@
+use Rattle.procedure.specs.Entry.{unpacked}
+use mathlib.Core.Path.{subst}
+use native.Mathlib.Omega.{arith}
+use Prim.Native.Nat.{ℕ, _≤_, _<_}
+use Rattle.follow.proofs.Links.{link-leaf}
 use borrow.Author.Needs.{needs}
 use Rattle.follow.proofs.plan.link_at.Statement.{statement}
 use Rattle.follow.proofs.plan.link_at.Tie as tie
-use Rattle.follow.proofs.plan.link_at.Reads as reads
-use Rattle.follow.proofs.plan.link_at.Lts as lts
-use Rattle.follow.proofs.plan.link_over.Reads as link-over-reads
-use Rattle.procedure.proofs.entry.kind_of.Reads as kind-of-reads
 
--- src/plan.rt:199:8
 kind-of-requires : tie.Need-kind-of-requires
 kind-of-requires c κs = search needs
 
--- src/plan.rt:200:9
 returns : tie.Need-returns
-returns c = ?
+returns c = let a = c .before .before .args in link-leaf (unpacked (a .node)) (a .plan .now) (a .i) (subst (λ (k : ℕ). k < 2) (c .before .kind-of .ensures) (c .if1 .taken))
 
--- src/plan.rt:202:5
 link-over-requires : tie.Need-link-over-requires
-link-over-requires c κs = ?
+link-over-requires c κs = (omega arith, c .before .before .before .pre .1 (subst (λ (k : ℕ). 2 ≤ k) (c .before .before .kind-of .ensures) (c .before .if1 .left)))
 
--- src/plan.rt:194:1
 returns-2 : tie.Need-returns-2
 returns-2 c = search needs
 
