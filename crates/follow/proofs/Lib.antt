@@ -7,3 +7,4 @@ mod Downward
 mod Upward
 mod Whole
 mod Links
+mod Stepping

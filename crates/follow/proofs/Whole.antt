@@ -84,3 +84,9 @@ rises {nodes} {plan} {n} {e} w i h =
       from = w .from i h;
       few = omega arith;
     }
+
+pub plans-as : {nodes p d f : List ℕ} {n : ℕ} (e : Expr) → n ≤ 512 → repeatsBelow (held nodes) n ≤ 32 → Stands (held nodes) 0 e → size e ≡ n
+    → UpTo nodes p n → d ≡ tell p (n - 1) top (n - 1) → f ≡ down nodes d n
+    → Plans nodes f n e
+plans-as {nodes} {p} {d} {f} {n} e most some st sized up ed ef =
+    subst (λ (x : List ℕ). Plans nodes x n e) (sym (ef ∙ ap (λ (x : List ℕ). down nodes x n) ed)) (plans-made nodes p n e most some st sized up)

@@ -1,35 +1,41 @@
+use native.Mathlib.Omega.{arith}
+use Rattle.meaning.proofs.Files.{root-size}
+use Rattle.procedure.specs.Entry.{held}
+use Rattle.follow.proofs.Upward.{upon}
+use Rattle.follow.proofs.Whole.{plans-as}
 use borrow.Author.Needs.{needs}
 use Rattle.follow.proofs.plan.fill_plan.Statement.{statement}
 use Rattle.follow.proofs.plan.fill_plan.Tie as tie
-use Rattle.follow.proofs.plan.fill_plan.Reads as reads
-use Rattle.follow.proofs.plan.fill_plan.Lts as lts
-use Rattle.follow.proofs.plan.fill_down.Reads as fill-down-reads
-use Rattle.follow.proofs.plan.fill_up.Reads as fill-up-reads
-use Rattle.follow.proofs.plan.tell_at.Reads as tell-at-reads
 
--- src/plan.rt:226:5
 fill-up-requires : tie.Need-fill-up-requires
-fill-up-requires c κs = ?
+fill-up-requires c κs = 
+    let start = c .before in
+    let a = start .args in
+    let tree = start .pre .1 .1 .1 in
+    (start .pre .0, (start .pre .1 .0, (start .pre .1 .1 .0, λ i h. upon (held (a .nodes .now)) 0 (tree .0) (tree .1) i (omega arith) (omega (arith, tree .2)))))
 
--- src/plan.rt:227:19
 sub-tell-at : tie.Need-sub-tell-at
-sub-tell-at c = ?
+sub-tell-at c = let tree = c .before .before .before .pre .1 .1 .1 in omega (arith, tree .2, root-size 0 (tree .0))
 
--- src/plan.rt:227:31
 sub-tell-at-2 : tie.Need-sub-tell-at-2
-sub-tell-at-2 c = ?
+sub-tell-at-2 c = let tree = c .before .before .before .pre .1 .1 .1 in omega (arith, tree .2, root-size 0 (tree .0))
 
--- src/plan.rt:227:5
 tell-at-requires : tie.Need-tell-at-requires
 tell-at-requires c κs = search needs
 
--- src/plan.rt:228:5
 fill-down-requires : tie.Need-fill-down-requires
-fill-down-requires c κs = ?
+fill-down-requires c κs = 
+    let start = c .before .before .before .before .before in
+    let a = start .args in
+    let tree = start .pre .1 .1 .1 in
+    (start .pre .0, λ i h. upon (held (a .nodes .now)) 0 (tree .0) (tree .1) i (omega arith) (omega (arith, tree .2)))
 
--- src/plan.rt:219:1
 returns : tie.Need-returns
-returns c = ?
+returns c = 
+    let start = c .before .before .before .before .before .before in
+    λ e st sized.
+        plans-as e (start .pre .0) (start .pre .1 .1 .0) st sized (c .before .before .before .before .fill-up .ensures) (c .before .before .tell-at .ensures)
+        (c .fill-down .ensures)
 
 pub fill-plan-spec : {M : Type 1} → statement M
 fill-plan-spec =
