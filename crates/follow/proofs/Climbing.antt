@@ -168,7 +168,7 @@ module _ (nodes plan counts : List ℕ) (n q : ℕ) where
     in-repeat own (ended w c) go = go w c
     in-repeat own (halted w e) go = halted (rw w) e
 
-sets-done : {nodes plan : List ℕ} {x y : ℕ} {c z : List ℕ} → x ≤ y → Sets nodes plan x y c z → c ≡ z
+pub sets-done : {nodes plan : List ℕ} {x y : ℕ} {c z : List ℕ} → x ≤ y → Sets nodes plan x y c z → c ≡ z
 sets-done h (done l) = refl
 sets-done h (next l w) = absurd (omega arith)
 

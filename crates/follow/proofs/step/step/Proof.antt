@@ -1,42 +1,56 @@
+use native.Mathlib.Omega.{arith}
+use Rattle.follow.proofs.Whole.{rises}
+use mathlib.Core.Logic.{inl, inr}
+use Rattle.follow.proofs.Stepping.{climbs-at, step-turns, step-stays}
 use borrow.Author.Needs.{needs}
 use Rattle.follow.proofs.step.step.Statement.{statement}
 use Rattle.follow.proofs.step.step.Tie as tie
-use Rattle.follow.proofs.step.step.Reads as reads
-use Rattle.follow.proofs.step.step.Lts as lts
-use Rattle.follow.proofs.climb.climb.Reads as climb-reads
-use Rattle.follow.proofs.turn.turn.Reads as turn-reads
 
--- src/step.rt:20:11
 climb-requires : tie.Need-climb-requires
-climb-requires c κs = ?
+climb-requires c κs = let start = c .before in (start .pre .1 .1 .1 .few, (start .pre .0, rises (start .pre .1 .1 .1)))
 
--- src/step.rt:21:25
 enum-known-x : tie.Need-enum-known-x
 enum-known-x c = search needs
 
--- src/step.rt:22:13
 turn-requires : tie.Need-turn-requires
-turn-requires c κs = ?
+turn-requires c κs = 
+    let climbed = c .before .before .before .before in
+    let start = climbed .before .before in
+    let up = rises (start .pre .1 .1 .1) in
+    let turn = climbs-at up (omega (arith, up (start .args .at) (start .pre .0) .up)) (climbed .climb .ensures) (c .before .before .x .given .1) in
+    let few = start .pre .1 .1 .1 .few in
+    (turn .0, (omega arith, (omega arith, λ i h. up i (omega arith))))
 
--- src/step.rt:23:13
 returns : tie.Need-returns
-returns c = ?
+returns c = 
+    let climbed = c .before .before .before .before .before in
+    let a = climbed .before .before .args in
+    λ e p pl k here m.
+        step-turns (a .nodes .now) (a .plan .now) (a .counts .now) (a .n) (a .q) (a .at) _ e p pl here m (climbed .climb .ensures) _ _ k
+        (c .before .before .before .x .given .1)
+        (c .turn .ensures)
 
--- src/step.rt:26:13
 enum-told : tie.Need-enum-told
 enum-told c = search needs
 
--- src/step.rt:26:13
 returns-2 : tie.Need-returns-2
-returns-2 c = ?
+returns-2 c = 
+    let climbed = c .before .before in
+    let a = climbed .before .before .args in
+    λ e p pl k here m.
+        step-stays (a .nodes .now) (a .plan .now) (a .counts .now) (a .n) (a .q) (a .at) _ e p pl here m (climbed .climb .ensures) k
+        (inl (c .enum-told .given .1))
 
--- src/step.rt:29:13
 enum-told-2 : tie.Need-enum-told-2
 enum-told-2 c = search needs
 
--- src/step.rt:29:13
 returns-3 : tie.Need-returns-3
-returns-3 c = ?
+returns-3 c = 
+    let climbed = c .before .before in
+    let a = climbed .before .before .args in
+    λ e p pl k here m.
+        step-stays (a .nodes .now) (a .plan .now) (a .counts .now) (a .n) (a .q) (a .at) _ e p pl here m (climbed .climb .ensures) k
+        (inr (c .enum-told2 .given .1))
 
 pub step-spec : {M : Type 1} → statement M
 step-spec =
