@@ -186,8 +186,7 @@ module _ (nodes : List ℕ) (n : ℕ) (most : n ≤ 512) where
       let m : Moves s (s + (size l + size r + 1)) p (w .after) =
       moves-then (omega arith) (omega arith) (omega arith) (omega arith) m12
       (moves-then {lo = s} {hi = i} (omega arith) (omega arith) (omega arith) (omega arith) (v .moves) (w .moves)) in
-      let next : s + (size l + size r + 1) ≡ suc i = omega arith in
-      (
+      let next : s + (size l + size r + 1) ≡ suc i = omega arith in (
         w .after,
         ap (down nodes p) next ∙ ap (λ (d : List ℕ). down nodes d i) same ∙ v .rest ∙ w .rest,
         told-kept p (w .after) i a h

@@ -103,15 +103,15 @@ stuck-not-ends e f = let z : _≡_ {A = ℕ} 0 1 = cc in omega arith
 -- ---- the answers of a step
 
 module _
-  (nodes plan counts : List ℕ)
-  (n q v : ℕ)
-  (r : Turn)
-  (e : Expr)
-  (p : Place e)
-  (pl : Plans nodes plan n e)
-  (here : nodeOf 0 e p ≡ v)
-  (m : Marked counts e p)
-  (w : Climbs nodes plan counts n q (aboveAt plan v) r) where
+    (nodes plan counts : List ℕ)
+    (n q v : ℕ)
+    (r : Turn)
+    (e : Expr)
+    (p : Place e)
+    (pl : Plans nodes plan n e)
+    (here : nodeOf 0 e p ≡ v)
+    (m : Marked counts e p)
+    (w : Climbs nodes plan counts n q (aboveAt plan v) r) where
   pub step-turns : (x : ℕ) (d : List ℕ) → kindOf (held nodes q) ≡ 1 → r ≡ At x → Turned nodes plan x q counts d → Stepped e p q true counts d
   step-turns x d k f u = by (finish nodes plan counts n q e p v r pl (at k) here m w)
     where

@@ -156,7 +156,15 @@ fn begins_right(left: u64, begins: usize, right: usize) -> usize
 }
 
 // The plan says of two nodes what stands above them.
-fn tell_pair(plan: &mut [u64; 512], left: usize, right: usize, al: usize, hl: usize, ar: usize, hr: usize)
+fn tell_pair(
+    plan: &mut [u64; 512],
+    left: usize,
+    right: usize,
+    al: usize,
+    hl: usize,
+    ar: usize,
+    hr: usize,
+)
     requires { ⌜ left < 512 ⌝ }
     requires { ⌜ right < 512 ⌝ }
     requires { ⌜ (al < 1024) × (hl < 1024) × (ar < 1024) × (hr < 1024) ⌝ }

@@ -11,7 +11,14 @@ use crate::climb;
 use crate::turn;
 
 // From event node `at` to event node q. The counters change only where the answer is yes.
-pub fn step(nodes: &[u64; 512], plan: &[u64; 512], n: usize, counts: &mut [u16; 32], at: usize, q: usize) -> bool
+pub fn step(
+    nodes: &[u64; 512],
+    plan: &[u64; 512],
+    n: usize,
+    counts: &mut [u16; 32],
+    at: usize,
+    q: usize,
+) -> bool
     requires { ⌜ at < n ⌝ }
     requires { ⌜ q < n ⌝ }
     requires { ⌜ ((e : Expr) × Plans (now nodes) (now plan) n e) ⌝ }
@@ -32,7 +39,13 @@ pub fn step(nodes: &[u64; 512], plan: &[u64; 512], n: usize, counts: &mut [u16; 
 }
 
 // From the start to event node q. The counters change only where the answer is yes.
-pub fn start(nodes: &[u64; 512], plan: &[u64; 512], n: usize, counts: &mut [u16; 32], q: usize) -> bool
+pub fn start(
+    nodes: &[u64; 512],
+    plan: &[u64; 512],
+    n: usize,
+    counts: &mut [u16; 32],
+    q: usize,
+) -> bool
     requires { ⌜ q < n ⌝ }
     requires { ⌜ ((e : Expr) × Plans (now nodes) (now plan) n e) ⌝ }
     ensures { λ r. ⌜ ((e : Expr) → Plans (now (nodes .entry)) (now (plan .entry)) n e → kindOf (held (now (nodes .entry)) q) ≡ 1 → Unmarked (now (counts .entry)) → Started e q r (now (counts .entry)) (now (counts .exit))) ⌝ }
@@ -45,7 +58,13 @@ pub fn start(nodes: &[u64; 512], plan: &[u64; 512], n: usize, counts: &mut [u16;
 }
 
 // Whether the run that stands at event node `at` may end there.
-pub fn can_end(nodes: &[u64; 512], plan: &[u64; 512], n: usize, counts: &[u16; 32], at: usize) -> bool
+pub fn can_end(
+    nodes: &[u64; 512],
+    plan: &[u64; 512],
+    n: usize,
+    counts: &[u16; 32],
+    at: usize,
+) -> bool
     requires { ⌜ at < n ⌝ }
     requires { ⌜ ((e : Expr) × Plans (now nodes) (now plan) n e) ⌝ }
     ensures { λ r. ⌜ ((e : Expr) (p : Place e) → Plans (now (nodes .entry)) (now (plan .entry)) n e → nodeOf 0 e p ≡ at → Marked (now (counts .entry)) e p → Ended n e p r) ⌝ }

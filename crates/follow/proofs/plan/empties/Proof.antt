@@ -27,7 +27,7 @@ empties-both-requires : tie.Need-empties-both-requires
 empties-both-requires c κs = search needs
 
 returns-2 : tie.Need-returns-2
-returns-2 c = 
+returns-2 c =
     let kind = c .before .before .before in
     let a = kind .before .before .args in
     (empty-sequence (unpacked (a .node)) (a .plan .now) (a .i) _ _ (sym (kind .kind-of .ensures) ∙ c .before .if2 .taken) (kind .before .left-of .ensures) (c .empties-both .ensures .0), c .empties-both .ensures .1)
@@ -39,10 +39,9 @@ empties-one-requires : tie.Need-empties-one-requires
 empties-one-requires c κs = search needs
 
 returns-3 : tie.Need-returns-3
-returns-3 c = 
+returns-3 c =
     let kind = c .before .before .before in
-    let a = kind .before .before .args in
-    (
+    let a = kind .before .before .args in (
       empty-choice (unpacked (a .node)) (a .plan .now) (a .i) _ _ (λ e. c .before .before .if1 .left (kind .kind-of .ensures ∙ e)) (λ e. c .before .if2 .left (kind .kind-of .ensures ∙ e))
           (kind .before .left-of .ensures)
           (c .empties-one .ensures .0),

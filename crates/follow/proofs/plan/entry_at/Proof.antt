@@ -20,27 +20,25 @@ entry-of-requires : tie.Need-entry-of-requires
 entry-of-requires c κs = search needs
 
 returns : tie.Need-returns
-returns c = 
+returns c =
     let kind = c .before .before .kind-of .ensures in
     let a = c .before .before .before .args in
-    let small = subst (λ (k : ℕ). k < 2) kind (c .before .if1 .taken) in
-    (
+    let small = subst (λ (k : ℕ). k < 2) kind (c .before .if1 .taken) in (
       start-leaf (unpacked (a .node)) (a .plan .now) (a .i) _ small (c .entry-of .ensures .0),
       (c .entry-of .ensures .1 .0, empty-leaf (unpacked (a .node)) (a .plan .now) (a .i) _ small (c .entry-of .ensures .1 .1 ∙ ap (λ (k : ℕ). 1 - k) kind)),
     )
 
 entry-over-requires : tie.Need-entry-over-requires
-entry-over-requires c κs = 
+entry-over-requires c κs =
     let kind = c .before .kind-of .ensures in
     let start = c .before .before in
     (omega arith, (omega arith, start .pre .1 .1 (subst (λ (k : ℕ). 2 ≤ k) kind (c .if1 .left))))
 
 returns-2 : tie.Need-returns-2
-returns-2 c = 
+returns-2 c =
     let kind = c .before .before .kind-of .ensures in
     let a = c .before .before .before .args in
-    let large = subst (λ (k : ℕ). 2 ≤ k) kind (c .before .if1 .left) in
-    (
+    let large = subst (λ (k : ℕ). 2 ≤ k) kind (c .before .if1 .left) in (
       start-over (unpacked (a .node)) (a .plan .now) (a .i) _ large (c .entry-over .ensures .0),
       (c .entry-over .ensures .1 .0, empty-over (unpacked (a .node)) (a .plan .now) (a .i) _ large (c .entry-over .ensures .1 .1)),
     )

@@ -23,10 +23,9 @@ entry-of-requires : tie.Need-entry-of-requires
 entry-of-requires c κs = search needs
 
 returns : tie.Need-returns
-returns c = 
+returns c =
     let start = c .before .before in
-    let a = start .before .before .before .args in
-    (
+    let a = start .before .before .before .args in (
       c .entry-of .ensures .0 ∙ start .start-of .ensures .0 ∙ ap (startAt (a .plan .now)) (start .before .before .left-of .ensures),
       (c .entry-of .ensures .1 .0, c .entry-of .ensures .1 .1 ∙ c .before .empties .ensures .0),
     )

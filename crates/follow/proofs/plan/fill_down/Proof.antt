@@ -26,7 +26,7 @@ element-copy-out-link-at : tie.Need-element-copy-out-link-at Inv-loop μ-loop
 element-copy-out-link-at c = search needs
 
 link-at-requires : tie.Need-link-at-requires Inv-loop μ-loop
-link-at-requires c κs = 
+link-at-requires c κs =
     let at = c .before .before .before in
     (omega arith, at .before .pre .1 (at .loop .i - 1) (omega arith))
 
@@ -34,7 +34,7 @@ loop-less : tie.Need-loop-less Inv-loop μ-loop
 loop-less c = search needs
 
 loop-again : tie.Need-loop-again Inv-loop μ-loop
-loop-again c = 
+loop-again c =
     let at = c .before .before .before .before in
     (search needs, down-one _ (at .loop .plan) _ _ (at .loop .i) (at .loop .i - 1) (omega arith) (c .link-at .ensures) (at .loop .inv .1))
 

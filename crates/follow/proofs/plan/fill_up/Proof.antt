@@ -27,7 +27,7 @@ element-copy-out-entry-at : tie.Need-element-copy-out-entry-at Inv-loop μ-loop
 element-copy-out-entry-at c = search needs
 
 entry-at-requires : tie.Need-entry-at-requires Inv-loop μ-loop
-entry-at-requires c κs = 
+entry-at-requires c κs =
     let at = c .before .before .before in
     let start = at .before in
     let few = below-rises (held (start .args .nodes .now)) (at .loop .i) (start .args .n) (omega arith) in
@@ -50,7 +50,7 @@ is-repeat-requires : tie.Need-is-repeat-requires Inv-loop μ-loop
 is-repeat-requires c κs = search needs
 
 add-k : tie.Need-add-k Inv-loop μ-loop
-add-k c = 
+add-k c =
     let at = c .before .before .before .before .before .before in
     let start = at .before in
     let few = below-rises (held (start .args .nodes .now)) (at .loop .i) (start .args .n) (omega arith) in
@@ -64,13 +64,12 @@ loop-less : tie.Need-loop-less Inv-loop μ-loop
 loop-less c = search needs
 
 loop-again : tie.Need-loop-again Inv-loop μ-loop
-loop-again c = 
+loop-again c =
     let at = c .before .before .before .before .before .before in
     let start = at .before in
     let g = held (start .args .nodes .now) in
     let next : at .loop .i + 1 ≡ suc (at .loop .i) = omega arith in
-    let made = c .before .before .entry-at .ensures in
-    (
+    let made = c .before .before .entry-at .ensures in (
       search needs,
       ap (λ (m : ℕ). at .loop .k + m) (c .is-repeat .ensures .0) ∙ ap (λ (m : ℕ). m + isRepeat (g (at .loop .i))) (at .loop .inv .1) ∙ sym (ap (repeatsBelow g) next),
       up-more (start .args .nodes .now) (at .loop .plan) (at .loop .i) (at .loop .inv .2) (at .loop .k) _ (omega arith)
@@ -82,7 +81,7 @@ loop-again c =
     )
 
 returns : tie.Need-returns Inv-loop μ-loop
-returns c = 
+returns c =
     let at = c .before in
     let start = at .before in
     let last : at .loop .i ≡ start .args .n = omega arith in

@@ -36,7 +36,7 @@ tell-at-requires : tie.Need-tell-at-requires
 tell-at-requires c κs = search needs
 
 returns : tie.Need-returns
-returns c = 
+returns c =
     let begins = c .before .before .before in
     let kind = begins .before .before .before .before .before in
     let a = kind .before .args in
@@ -61,7 +61,7 @@ tell-pair-requires : tie.Need-tell-pair-requires
 tell-pair-requires c κs = search needs
 
 returns-2 : tie.Need-returns-2
-returns-2 c = 
+returns-2 c =
     let begins = c .before .before .before .before .before .before in
     let above = begins .before .before in
     let lefts = above .before .before in
@@ -80,7 +80,7 @@ tell-pair-requires-2 : tie.Need-tell-pair-requires-2
 tell-pair-requires-2 c κs = search needs
 
 returns-3 : tie.Need-returns-3
-returns-3 c = 
+returns-3 c =
     let begins = c .before .before .before .before .before in
     let above = begins .before .before in
     let lefts = above .before .before in
@@ -95,7 +95,7 @@ returns-3 c =
     (c .tell-pair2 .ensures)
 
 returns-4 : tie.Need-returns-4
-returns-4 c = 
+returns-4 c =
     let kind = c .before .before .before .before .before .before .before .before in
     let a = kind .before .args in
     link-other (unpacked (a .node)) (a .plan .now) (a .i) (λ e. c .before .before .if1 .left (kind .kind-of .ensures ∙ e)) (λ e. c .before .if2 .left (kind .kind-of .ensures ∙ e))

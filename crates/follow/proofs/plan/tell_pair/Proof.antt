@@ -13,7 +13,7 @@ tell-at-requires-2 : tie.Need-tell-at-requires-2
 tell-at-requires-2 c κs = search needs
 
 returns : tie.Need-returns
-returns c = 
+returns c =
     let a = c .before .before .before .before .args in
     c .tell-at2 .ensures ∙ ap (λ (p : List ℕ). tell p (a .right) (a .ar) (a .hr)) (c .before .before .tell-at .ensures)
 

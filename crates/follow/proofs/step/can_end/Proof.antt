@@ -14,34 +14,34 @@ enum-told : tie.Need-enum-told
 enum-told c = search needs
 
 returns : tie.Need-returns
-returns c = 
+returns c =
     let climbed = c .before .before in
     let a = climbed .before .args in
     λ e p pl here m.
-        end-no (a .nodes .now) (a .plan .now) (a .counts .now) (a .n) (a .n) (a .at) _ e p pl here m (climbed .climb .ensures) (past (le-refl (a .n))) refl
-        (at-not-ends (c .enum-told .given .1))
+    end-no (a .nodes .now) (a .plan .now) (a .counts .now) (a .n) (a .n) (a .at) _ e p pl here m (climbed .climb .ensures) (past (le-refl (a .n))) refl
+    (at-not-ends (c .enum-told .given .1))
 
 enum-told-2 : tie.Need-enum-told-2
 enum-told-2 c = search needs
 
 returns-2 : tie.Need-returns-2
-returns-2 c = 
+returns-2 c =
     let climbed = c .before .before in
     let a = climbed .before .args in
     λ e p pl here m.
-        end-yes (a .nodes .now) (a .plan .now) (a .counts .now) (a .n) (a .n) (a .at) _ e p pl here m (climbed .climb .ensures) (past (le-refl (a .n))) refl
-        (c .enum-told2 .given .1)
+    end-yes (a .nodes .now) (a .plan .now) (a .counts .now) (a .n) (a .n) (a .at) _ e p pl here m (climbed .climb .ensures) (past (le-refl (a .n))) refl
+    (c .enum-told2 .given .1)
 
 enum-told-3 : tie.Need-enum-told-3
 enum-told-3 c = search needs
 
 returns-3 : tie.Need-returns-3
-returns-3 c = 
+returns-3 c =
     let climbed = c .before .before in
     let a = climbed .before .args in
     λ e p pl here m.
-        end-no (a .nodes .now) (a .plan .now) (a .counts .now) (a .n) (a .n) (a .at) _ e p pl here m (climbed .climb .ensures) (past (le-refl (a .n))) refl
-        (stuck-not-ends (c .enum-told3 .given .1))
+    end-no (a .nodes .now) (a .plan .now) (a .counts .now) (a .n) (a .n) (a .at) _ e p pl here m (climbed .climb .ensures) (past (le-refl (a .n))) refl
+    (stuck-not-ends (c .enum-told3 .given .1))
 
 pub can-end-spec : {M : Type 1} → statement M
 can-end-spec =
