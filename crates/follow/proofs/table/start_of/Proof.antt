@@ -1,0 +1,12 @@
+-- `follow::table::start_of` meets its contract. Assumes nothing.
+use borrow.Author.Needs.{needs}
+use Rattle.follow.specs.Table.{startIn}
+use Rattle.follow.proofs.table.start_of.Statement.{statement}
+use Rattle.follow.proofs.table.start_of.Tie as tie
+
+returns : tie.Need-returns
+unfolding startIn
+returns c = search needs
+
+pub start-of-spec : {M : Type 1} → statement M
+start-of-spec = tie.close (tie.spec returns)

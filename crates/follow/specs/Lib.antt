@@ -1,0 +1,7 @@
+-- What the contracts on runs cite.
+pub mod Table
+pub mod Plan
+pub mod Counts
+pub mod Climb
+pub mod Filling
+pub mod Step
