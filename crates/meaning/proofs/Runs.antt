@@ -3,19 +3,16 @@
 use mathlib.Core.Path.{_≡_, refl, sym, ap, _∙_, subst, subst⁻¹}
 use mathlib.Core.Logic.{_↔_}
 use mathlib.Core.List.{List, [], _∷_, _++_, append-assoc, append-nil}
-use Prim.Native.Nat.{ℕ, zero, suc, _+_, _≤_, _<_}
+use Prim.Native.Nat.{ℕ, _+_, _≤_}
 use native.Mathlib.Omega.{arith}
-use lib.ListN.{length, take, drop, getD, drop-of-length-le}
-use lib.Seq.{take-append-seam, drop-cons}
-use Rattle.meaning.specs.declared.Verdict.{Verdict}
-use Rattle.meaning.specs.declared.Verdict.the-variants.{Complete, Unfinished, Broken}
-use Rattle.meaning.specs.Expr.{Expr, event, Part, Bounded}
+use lib.ListN.{length, take}
+use lib.Seq.{take-append-seam}
+use Rattle.meaning.specs.Expr.{Expr, event, size, Part, Bounded}
 use Rattle.meaning.specs.Word.{Word, Begins}
-use Rattle.meaning.specs.Reading.{Item, codes, upTo, Reading}
+use Rattle.meaning.specs.Reading.{Item, codes, upTo}
 use Rattle.meaning.specs.Strong.{StronglyDeterministic}
-use Rattle.meaning.specs.State.{State, stateOf, stateBytes, Reaches, reaches, ReachesBytes}
-use Rattle.meaning.specs.Promises.{VerdictOf, complete, unfinished, broken, Takes, GoesOn}
-use Rattle.meaning.proofs.Place.{Place, nodeOf, codeOf, itemOf, Sound, CanStart, opens, Step, Before}
+use Rattle.meaning.specs.State.{State, stateOf, Reaches, reaches}
+use Rattle.meaning.proofs.Place.{Place, nodeOf, codeOf, itemOf, Sound, opens, Before}
 use Rattle.meaning.proofs.Items.{codes-append, codes-upTo}
 use Rattle.meaning.proofs.Records.{code-of-node}
 use Rattle.meaning.proofs.Directly.{place-part}
@@ -26,9 +23,7 @@ use Rattle.meaning.proofs.States.{run-within, reaches-begins, one-state
 use Rattle.meaning.proofs.Continue.{alike-rest, same-state-alike, same-state-same-continuations, codes-rest}
 use Rattle.meaning.proofs.Spots.{Spot, start, behind, Move, Next, CanStop, last, Onward, Safe, onward-stop, onward-last, some-onward, last-no-event, onto, way-codes, way-onward, cut}
 use Rattle.meaning.proofs.Spots as spots
-use Rattle.meaning.proofs.Ways.{entry, enters, way, turns, entry-iff, way-step, step-turned, turned-to}
-use Rattle.meaning.proofs.Followed.{begins-shorter}
-use Rattle.meaning.proofs.GoesOn.{goes-on-after}
+use Rattle.meaning.proofs.Ways.{enters, apart, entry, Way, turns, ends, stuck, way, entry-iff, Turned, way-step, step-turned, turned-to, way-ends}
 
 -- ---- spots and the ways from them
 
@@ -60,6 +55,21 @@ move-leads e (behind p) v n = turned-to (way 0 e p (nodeOf 0 e (v .0))) (step-tu
 pub leads-code : (e : Expr) (k : Spot e) (q c : ℕ) (t : Place e) → Part 0 e q (event c) → LeadsTo e k q t → codeOf e t ≡ c
 leads-code e k q c t w l =
     code-of-node e q (codeOf e t) c (subst (λ (i : ℕ). Part 0 e i (event (codeOf e t))) (leads-move e k q t l .2) (place-part 0 e t)) w
+
+-- where the way does not turn, it leads to no place
+pub unturned-no-lead : (e : Expr) (p : Place e) (q : ℕ) (x : Way (Place e)) → way 0 e p q ≡ x → ¬ Turned x → (t : Place e) → ¬ LeadsTo e (behind p) q t
+unturned-no-lead e p q x h n t w = n (subst⁻¹ Turned (sym h ∙ w) tt)
+
+-- nor does it from the start where there is no entry
+pub apart-no-lead : (e : Expr) (q : ℕ) → entry 0 e q ≡ apart → (t : Place e) → ¬ LeadsTo e start q t
+apart-no-lead e q h t w = let z : _≡_ {A = ℕ} 0 1 = cc in omega arith
+
+-- where the way towards no node of the expression is stuck, a reading may not stop
+pub stuck-no-stop : (e : Expr) (p : Place e) (q : ℕ) → size e ≤ q → way 0 e p q ≡ stuck → ¬ CanStop e (behind p)
+stuck-no-stop e p q h w c =
+    let ended = way-ends 0 e p q (omega arith) .1 c in
+    let z : _≡_ {A = ℕ} 0 1 = cc in
+    omega arith
 
 -- ---- items that lead to a spot
 
@@ -115,6 +125,10 @@ pub record RunAt (e : Expr) (w : List ℕ) (k : Spot e) : Type 0 where
 -- it begins a word
 pub run-begins : (e : Expr) → Bounded e → (w : List ℕ) (k : Spot e) → RunAt e w k → Begins e w
 run-begins e h w k at = reaches-begins e h w (spotState e k) (at .there)
+
+-- some run stands at every safe spot
+pub some-run : (e : Expr) → Bounded e → (k : Spot e) → Safe e k → (w : List ℕ) × RunAt e w k
+some-run e h k s = let a = some-led e h k s in (codes (a .0), record { safe = s; there = led-reaches e h k (a .0) s (a .1) })
 
 -- a run that reaches a state stands at a spot with that state
 pub reaches-run : (e : Expr) → Bounded e → (w : List ℕ) (z : State) → Reaches e w z → (k : Spot e) × RunAt e w k × (spotState e k ≡ z)
