@@ -98,6 +98,10 @@ module _ (e : Expr) (h : Bounded e) (d : StronglyDeterministic e) where
 pub record Gone (e : Expr) (k : Spot e) (events : List ℕ) (i : ℕ) (j : Spot e) : Type 0 where
   pub onward : (n : ℕ) (l : Spot e) → Going e j (drop i events) n l → Going e k events (i + n) l
 
+-- the events from the i-th on
+from-here : (events : List ℕ) (i c : ℕ) → i < length events → getD events i 0 ≡ c → drop i events ≡ c ∷ drop (suc i) events
+from-here events i c h code = subst (λ (b : ℕ). drop i events ≡ b ∷ drop (suc i) events) code (drop-cons events i 0 h)
+
 -- at first none is taken
 pub gone-none : (e : Expr) (k : Spot e) (events : List ℕ) → Gone e k events 0 k
 gone-none e k events = record { onward = λ n l g. subst (λ (m : ℕ). Going e k events m l) (omega arith) g }
@@ -111,9 +115,8 @@ gone-more e k j events i c q t g h code p l = record { onward = on }
     on n z w =
         let later : i + 1 ≡ suc i = omega arith in
         let count : i + suc n ≡ i + 1 + n = omega arith in
-        let rest = subst (λ (b : ℕ). drop i events ≡ b ∷ drop (suc i) events) code (drop-cons events i 0 h) in
         let further = more j z c (drop (suc i) events) n q t p l (subst (λ (m : ℕ). Going e (behind t) (drop m events) n z) later w) in
-        subst (λ (m : ℕ). Going e k events m z) count (g .onward (suc n) z (subst⁻¹ (λ (b : List ℕ). Going e j b (suc n) z) rest further))
+        subst (λ (m : ℕ). Going e k events m z) count (g .onward (suc n) z (subst⁻¹ (λ (b : List ℕ). Going e j b (suc n) z) (from-here events i c h code) further))
 
 -- the events end here
 pub gone-done : (e : Expr) (k j : Spot e) (events : List ℕ) (i : ℕ) → Gone e k events i j → length events ≤ i → Going e k events i j
@@ -125,9 +128,8 @@ gone-done e k j events i g h =
 pub gone-stuck : (e : Expr) (k j : Spot e) (events : List ℕ) (i c : ℕ) → Gone e k events i j → i < length events → getD events i 0 ≡ c
     → NoWay e j c → Going e k events i j
 gone-stuck e k j events i c g h code n =
-    let rest = subst (λ (b : ℕ). drop i events ≡ b ∷ drop (suc i) events) code (drop-cons events i 0 h) in
     subst (λ (m : ℕ). Going e k events m j) (omega arith)
-    (g .onward 0 j (subst⁻¹ (λ (b : List ℕ). Going e j b 0 j) rest (stuck j c (drop (suc i) events) n)))
+    (g .onward 0 j (subst⁻¹ (λ (b : List ℕ). Going e j b 0 j) (from-here events i c h code) (stuck j c (drop (suc i) events) n)))
 
 -- ---- the promise
 
