@@ -39,3 +39,9 @@ pub mod Errors
 pub mod Directly
 pub mod Ways
 pub mod Loosened
+pub mod GoesOn
+pub mod Runs
+pub mod StateBytes
+pub mod Follows
+pub mod EventNodes
+pub mod Pieces
