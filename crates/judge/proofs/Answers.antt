@@ -12,7 +12,7 @@ use Rattle.meaning.specs.declared.Refusal.{Refusal}
 use Rattle.meaning.specs.declared.Refusal.the-variants.{Size, Letters, Measures, Record, Order, Repeats, Conflict, Unreached, Length, Incomplete, Room}
 use Rattle.meaning.specs.Conflict.{LowestConflict}
 use Rattle.meaning.specs.Expr.{Expr}
-use Rattle.meaning.specs.File.{WellFormed, Holds, Refused, by-size, by-letters, by-measures, by-record, by-order, by-root, by-repeats, Barred, malformed, conflicting, Admitted, count, nodeAt}
+use Rattle.meaning.specs.File.{WellFormed, Holds, Refused, by-size, by-letters, by-measures, by-record, by-order, by-root, by-repeats, malformed, conflicting, count, nodeAt}
 use Rattle.meaning.specs.Node.{repeatsBelow}
 use Rattle.meaning.specs.Numbers.{JudgeNumbers, judged, row, judgeNumbers}
 use Rattle.meaning.specs.Promises.{Judges, JudgePromise}
@@ -97,6 +97,11 @@ lowest-of f a i k c (Judges.refused r (conflicting e j l d p o)) = (
 )
 
 -- ---- of the numbers that Judge promises
+
+-- the numbers of an answer
+pub answer-promise : (f : List ℕ) (a : JudgeAnswer) → Judges f a → JudgePromise f (judgeNumbers a)
+unfolding JudgePromise
+answer-promise f a p = (a, p, refl)
 
 pub zero-iff-strong : (f : List ℕ) (out : JudgeNumbers) → JudgePromise f out
     → (out .answer ≡ 0) ↔ ((e : Expr) × FewRepeats f e × StronglyDeterministic e)

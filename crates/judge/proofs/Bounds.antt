@@ -1,13 +1,12 @@
 -- The tests on a repeat's bounds, against the upper bound that a number means. Assumes nothing.
-use mathlib.Core.Bool.{Bool, true, false, So, _&&_, cond, false≢true, and-eq-true-iff}
+use mathlib.Core.Bool.{Bool, true, false, So, _&&_, cond, and-eq-true-iff}
 use mathlib.Core.Logic.{_↔_, Iff·trans, Iff·and}
 use mathlib.Core.Path.{_≡_, refl}
-use Prim.Native.Nat.{ℕ, _+_, _≤_, _<_}
+use Prim.Native.Nat.{ℕ, _+_, _≤_}
 use native.Mathlib.Omega.{arith}
-use native.Mathlib.Numerals.{add-one-le}
 use borrow.Author.Tests.{eqb-true, le-leb, leb-true, lt-ltb, ltb-true}
 use lib.Dec.{eqb, leb, ltb}
-use Rattle.meaning.specs.Expr.{Upper, upto, endless, Within}
+use Rattle.meaning.specs.Expr.{upto, endless, Within}
 use Rattle.meaning.specs.Node.{bound}
 use Rattle.meaning.specs.Normal.{low}
 use Rattle.meaning.specs.Sets.{Flexible}

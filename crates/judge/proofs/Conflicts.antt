@@ -1,28 +1,16 @@
 -- The conflicts of a part: those of its children and its own, each group before the next. Assumes nothing.
 use mathlib.Core.Logic.{_↔_, _⊎_, inl, inr, ⊎-elim}
-use mathlib.Core.Path.{_≡_, refl, sym, subst}
+use mathlib.Core.Path.{_≡_, refl, subst}
 use Prim.Native.Nat.{ℕ, _+_, _≤_, _<_}
 use native.Mathlib.Omega.{arith}
 use Rattle.meaning.specs.Conflict.{Conflict, ConflictAt}
-use Rattle.meaning.specs.Expr.{Expr, empty, event, choice, sequence, repeat, size, root, Part, Whole}
+use Rattle.meaning.specs.Expr.{Expr, size, root, Part, Whole}
 use Rattle.meaning.proofs.Parts.{part-within}
 use Rattle.judge.specs.Lowest.{Conflicts, Names, orElse}
 use Rattle.judge.specs.declared.conflict.Found.{Found}
 use Rattle.judge.proofs.Lowest.{Either, Same, Ahead, names-same, names-either}
 
--- ---- where the nodes of a part are
-
-part-from : (s : ℕ) (e : Expr) (i : ℕ) (p : Expr) → Part s e i p → s ≤ i
-part-from s empty i p w = let h = w .0 in omega arith
-part-from s (event c) i p w = let h = w .0 in omega arith
-part-from s (choice l r) i p (inl w) = part-from s l i p w
-part-from s (choice l r) i p (inr (inl w)) = let h = part-from (s + size l) r i p w in omega arith
-part-from s (choice l r) i p (inr (inr w)) = let h = w .0 in omega arith
-part-from s (sequence l r) i p (inl w) = part-from s l i p w
-part-from s (sequence l r) i p (inr (inl w)) = let h = part-from (s + size l) r i p w in omega arith
-part-from s (sequence l r) i p (inr (inr w)) = let h = w .0 in omega arith
-part-from s (repeat b lower upper) i p (inl w) = part-from s b i p w
-part-from s (repeat b lower upper) i p (inr w) = let h = w .0 in omega arith
+-- ---- where the conflicts of a part are
 
 -- every conflict of R is below node n; every one is from node n on
 abbrev Under : ℕ → Conflicts → Type 0
@@ -41,7 +29,7 @@ at-under : (s : ℕ) (e : Expr) → Under (s + size e) (ConflictAt s e)
 at-under s e i k c x = part-within s e i (x .0) (x .1) .1
 
 at-from : (s : ℕ) (e : Expr) → From s (ConflictAt s e)
-at-from s e i k c x = part-from s e i (x .0) (x .1)
+at-from s e i k c x = part-within s e i (x .0) (x .1) .0
 
 -- ---- a part's own conflicts, at its node
 
@@ -54,9 +42,8 @@ own-from n m e h i k c x = let g = x .0 in omega arith
 whole-own : (s : ℕ) (e : Expr) (i k c : ℕ) → ((p : Expr) × Whole s e i p × Conflict p k c) ↔ OwnAt (root s e) e i k c
 whole-own s e i k c = (λ x. (x .1 .0, subst (λ (p : Expr). Conflict p k c) (x .1 .1) (x .2)), λ x. (e, (x .0, refl), x .1))
 
--- ---- of a leaf, of a node with two children, of a repeat
+-- ---- of a node with two children, of a repeat
 
--- the conflicts of a node with two children
 abbrev OfTwo : ℕ → Expr → Expr → Expr → Conflicts
 OfTwo s l r e i k c = (p : Expr) × (Part s l i p ⊎ Part (s + size l) r i p ⊎ Whole s e i p) × Conflict p k c
 

@@ -1,10 +1,11 @@
--- The laws that belong to no one function.
-pub mod Admissions
+-- The laws that belong to no one function: `Answers`, `Roots` and `Standing` for whoever uses the judge, the others for the proofs
+-- of this crate.
+mod Admissions
 pub mod Answers
-mod Iffs
-mod Lowest
+mod Bounds
 mod Conflicts
 mod Joins
 mod Leaves
-mod Standing
-mod Bounds
+mod Lowest
+pub mod Roots
+pub mod Standing

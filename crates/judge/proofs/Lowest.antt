@@ -2,9 +2,9 @@
 -- Assumes nothing.
 use mathlib.Core.Logic.{_↔_, _⊎_, inl, inr, ⊎-elim}
 use mathlib.Core.Path.{_≡_, refl}
-use Prim.Native.Nat.{ℕ, _≤_, _<_}
+use Prim.Native.Nat.{ℕ, _<_}
 use native.Mathlib.Omega.{arith}
-use native.Mathlib.Nat.{le-of-eq, le-refl}
+use native.Mathlib.Nat.{le-of-eq}
 use Rattle.codes.specs.Codes.{Least, Shared}
 use Rattle.judge.specs.Lowest.{Conflicts, Lowest, Names, SharedAt, orElse}
 use Rattle.judge.specs.declared.conflict.Found.{Found}

@@ -4,27 +4,13 @@ use mathlib.Core.Path.{_≡_, sym, ap, subst, _∙_}
 use Prim.Native.Nat.{ℕ, _+_, _-_, _≤_, _<_}
 use native.Mathlib.Omega.{arith}
 use Rattle.meaning.specs.Expr.{Expr, empty, event, choice, sequence, repeat, size, root, Upper}
-use Rattle.meaning.specs.Node.{Node, node, InTable, empty-line, event-line, choice-line, sequence-line, repeat-line, Stands, InOrder, bound}
-use Rattle.meaning.proofs.Files.{root-size}
-use Rattle.procedure.specs.Entry.{kindOf, codeOf, leftOf, lowerOf, upperOf}
+use Rattle.meaning.specs.Node.{Node, node, InTable, Stands, InOrder, bound}
+use Rattle.meaning.proofs.Parts.{root-size}
+use Rattle.procedure.specs.Entry.{kindOf, leftOf, lowerOf, upperOf}
 use Rattle.judge.specs.Sets.{SetsOf, SetsAt, Joins, Repeats, TableUpTo}
 use Rattle.judge.specs.declared.sets.Sets.{Sets}
 
 -- ---- the table
-
-pub table-lower : {n : Node} {kind : ℕ} → InTable n → kind ≡ kindOf n → kind ≡ 4 → lowerOf n ≤ 4096
-table-lower empty-line h k = absurd (omega arith)
-table-lower (event-line c l) h k = absurd (omega arith)
-table-lower (choice-line l r) h k = absurd (omega arith)
-table-lower (sequence-line l r) h k = absurd (omega arith)
-table-lower (repeat-line b lower upper l w m) h k = l
-
-pub table-code : {n : Node} → InTable n → kindOf n ≡ 1 → codeOf n < 64
-table-code empty-line k = absurd (omega arith)
-table-code (event-line c l) k = omega arith
-table-code (choice-line l r) k = absurd (omega arith)
-table-code (sequence-line l r) k = absurd (omega arith)
-table-code (repeat-line b lower upper l w m) k = absurd (omega arith)
 
 pub table-here : (g : ℕ → Node) (i : ℕ) → TableUpTo g i → InTable (g i)
 unfolding TableUpTo

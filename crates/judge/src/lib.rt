@@ -28,11 +28,7 @@ pub fn admit(file: &[u8], nodes: &mut [u64; 512]) -> Admission
             let found = root.conflict;
             match found {
                 Found::Nothing => Admission::Nodes(n),
-                Found::At(node, kind, code) => Admission::Refused(Refusal::Conflict(
-                    node,
-                    kind,
-                    code,
-                )),
+                Found::At(i, k, c) => Admission::Refused(Refusal::Conflict(i, k, c)),
             }
         }
     }

@@ -18,13 +18,16 @@ use procedure::entry;
 pub struct Sets {
     // Whether it has the empty word.
     pub nullable: bool,
+    // The codes that begin its words.
     pub first: u64,
+    // The codes with which a word of it may go on where it might end.
     pub after: u64,
+    // The lowest conflict at its nodes.
     pub conflict: Found,
 }
 
-// A repeat of at least so many blocks may go on after one.
-const AGAIN: u16 = 2;
+// The least upper bound with which a repeat may have a second block.
+const SECOND_BLOCK: u16 = 2;
 
 // The set where `when` is true, and else no code.
 fn only_if(when: bool, set: u64) -> u64
@@ -51,7 +54,7 @@ fn normal_lower(nullable: bool, lower: u16) -> u16
 fn again(upper: u16) -> bool
     ensures { λ r. ⌜ So r ↔ Within 2 (bound upper) ⌝ }
 {
-    AGAIN <= upper
+    SECOND_BLOCK <= upper
 }
 
 // Whether a repeat may stop or go on after a block. The table keeps every lower bound below entry::NO_BOUND.
@@ -105,16 +108,15 @@ fn sequence_sets(i: usize, l: Sets, r: Sets) -> Sets
 {
     let left = l.conflict;
     let right = r.conflict;
-    // First of the right, where the left may be passed by; and where the left has an event to come after.
-    let passed = only_if(l.nullable, r.first);
+    // First of the right: where it may begin the sequence, and where it may come after an event of the left.
+    let begins = only_if(l.nullable, r.first);
     let follows = only_if(has_any(l.first), r.first);
-    let own = conflict::or_else(
-        conflict::shared_at(i, conflict::EMPTY_LEFT, l.first, passed),
-        conflict::shared_at(i, conflict::AFTER_LEFT, l.after, r.first),
-    );
+    let at_start = conflict::shared_at(i, conflict::EMPTY_LEFT, l.first, begins);
+    let at_seam = conflict::shared_at(i, conflict::AFTER_LEFT, l.after, r.first);
+    let own = conflict::or_else(at_start, at_seam);
     Sets {
         nullable: l.nullable & r.nullable,
-        first: codes::union(l.first, passed),
+        first: codes::union(l.first, begins),
         after: codes::union(r.after, only_if(r.nullable, codes::union(l.after, follows))),
         conflict: conflict::or_else(left, conflict::or_else(right, own)),
     }
@@ -128,14 +130,14 @@ fn repeat_sets(i: usize, node: u64, b: Sets) -> Sets
     let lower = entry::lower_of(node);
     let upper = entry::upper_of(node);
     let body = b.conflict;
-    let own = conflict::shared_at(i, conflict::REPEAT, b.after, only_if(again(upper), b.first));
+    // First of the body: where another block may follow, and where it may follow or not.
+    let follows = only_if(again(upper), b.first);
+    let own = conflict::shared_at(i, conflict::REPEAT, b.after, follows);
+    let may_follow = only_if(flexible(normal_lower(b.nullable, lower), upper), b.first);
     Sets {
         nullable: (lower == 0) | b.nullable,
         first: b.first,
-        after: codes::union(
-            b.after,
-            only_if(flexible(normal_lower(b.nullable, lower), upper), b.first),
-        ),
+        after: codes::union(b.after, may_follow),
         conflict: conflict::or_else(body, own),
     }
 }

@@ -1,8 +1,8 @@
 -- The free text judges nothing: files that differ only in the bytes before the first node are refused alike and list the same
 -- expression, so Judge answers them alike. Assumes nothing.
-use mathlib.Core.Path.{_≡_, sym, ap, ap₂, subst, subst₂, _∙_, fun-ext}
+use mathlib.Core.Path.{_≡_, sym, ap, ap₂, subst₂, _∙_, fun-ext}
 use mathlib.Core.Logic.{_↔_}
-use mathlib.Core.List.{List, [], _∷_, _++_}
+use mathlib.Core.List.{List, _++_}
 use Prim.Native.Nat.{ℕ, suc, _+_, _-_, _*_, _≤_, _<_}
 use native.Mathlib.Omega.{arith}
 use lib.ListN.{length, take, drop, length-append}
@@ -160,7 +160,8 @@ texts-alike text other rest s t w least most =
       nodes = text-nodes text rest s w ∙ sym (text-nodes other rest t w);
     }
 
--- the free text changes no answer: `rest` is n node records, n from 1 to 512, and the trailer
+-- the free text changes no answer: `rest` is n node records and the trailer, n from 1 to 512. (For another n it is the text's length
+-- that decides whether the file's is wrong, so whether 1 is given or 3.)
 pub text-judges-nothing : (text other rest : List ℕ) → length text ≤ 4096 → length other ≤ 4096 → length rest ≡ span (count rest)
     → 1 ≤ count rest → count rest ≤ 512 → (answer : JudgeAnswer) → Judges (text ++ rest) answer ↔ Judges (other ++ rest) answer
 text-judges-nothing text other rest s t w least most answer =

@@ -22,6 +22,7 @@ pub mod Files
 pub mod Refusals
 pub mod Outcomes
 pub mod Records
+pub mod FreeText
 pub mod Stays
 pub mod States
 pub mod Continue
@@ -35,7 +36,6 @@ pub mod Search
 pub mod Followed
 pub mod Bench
 pub mod Errors
-pub mod FreeText
 pub mod Directly
 pub mod Ways
 pub mod Loosened

@@ -1,7 +1,7 @@
 -- The table of node records, line by line, as the tests of a record meet it. Assumes nothing.
 use mathlib.Core.Path.{_≡_, refl, sym, subst, subst₂}
 use mathlib.Core.Bool.{Bool, true, false}
-use mathlib.Core.Logic.{_↔_, inl, inr, ⊎-elim}
+use mathlib.Core.Logic.{_↔_}
 use Prim.Native.Nat.{ℕ, zero, suc, _≤_, _<_}
 use native.Mathlib.Omega.{arith}
 use Rattle.meaning.specs.Node.{Node, node, InTable, empty-line, event-line, choice-line, sequence-line, repeat-line}
@@ -87,3 +87,9 @@ upper-kept (event-line c h) other = refl
 upper-kept (choice-line l r) other = refl
 upper-kept (sequence-line l r) other = refl
 upper-kept (repeat-line b lower upper h u l) other = absurd (other refl)
+
+pub event-kept : (n : Node) → InTable n → kindOf n ≡ 1 → codeOf n ≤ 63
+event-kept n t e = told 1 n e .0 t .0
+
+pub bounds-kept : (n : Node) → InTable n → kindOf n ≡ 4 → BoundsWritten (lowerOf n) (upperOf n)
+bounds-kept n t e = told 4 n e .0 t .1

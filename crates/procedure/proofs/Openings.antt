@@ -7,9 +7,8 @@ use Rattle.meaning.specs.Node.{Node, InOrder, InTable, repeatsBelow}
 use Rattle.meaning.specs.File.{Framed, Refused, TableBelow, WellFormed, by-order, by-record, by-repeats, by-root, count, nodeAt}
 use Rattle.meaning.specs.declared.Refusal.the-variants.{Order, Record, Repeats}
 use Rattle.meaning.proofs.Files.{root-size, stands-same}
-use Rattle.procedure.specs.declared.Opened.the-variants.{Nodes}
 use Rattle.procedure.specs.Entry.{Tied, held}
-use Rattle.procedure.specs.Opening.{Opens}
+use Rattle.procedure.specs.Opening.{Filled}
 use Rattle.procedure.specs.Parts.{Begins, OrderTested, broken, late, whole}
 use Rattle.procedure.proofs.Counting.{same-count}
 
@@ -18,6 +17,10 @@ pub tested-whole : {g : ℕ → Node} {n i : ℕ} → OrderTested g n i → n �
 tested-whole (broken i l below bad) h = absurd (omega arith)
 tested-whole (late i e below bad) h = absurd (omega arith)
 tested-whole (whole b) h = b
+
+-- what is in order among some nodes is so among nodes that are equal up to it
+order-same : (g h : ℕ → Node) (n : ℕ) → ((i : ℕ) → i < n → g i ≡ h i) → (i : ℕ) → i < n → InOrder g i → InOrder h i
+order-same g h n same i l o = (o .0, o .1, stands-same g h n (o .0) (o .1) same (omega (arith, o .3)) (o .2), o .3)
 
 module _ (f nodes : List ℕ) (n : ℕ) (framed : Framed f) (here : n ≡ count f) (tied : Tied f nodes n) where
   pub off-table : (i : ℕ) → i < n → ((j : ℕ) → j < i → InTable (held nodes j)) → ¬ InTable (held nodes i) → Refused f (Record i)
@@ -30,11 +33,10 @@ module _ (f nodes : List ℕ) (n : ℕ) (framed : Framed f) (here : n ≡ count 
     kept j l = subst InTable (tied j (omega arith)) (table j (omega arith))
 
     in-file : (i : ℕ) → i < n → InOrder (held nodes) i → InOrder (nodeAt f) i
-    in-file i l o = (o .0, o .1, stands-same (held nodes) (nodeAt f) n (o .0) (o .1) tied (omega (arith, o .3)) (o .2), o .3)
+    in-file = order-same (held nodes) (nodeAt f) n tied
 
     in-array : (i : ℕ) → i < n → InOrder (nodeAt f) i → InOrder (held nodes) i
-    in-array i l o =
-        (o .0, o .1, stands-same (nodeAt f) (held nodes) n (o .0) (o .1) (λ j k. sym (tied j k)) (omega (arith, o .3)) (o .2), o .3)
+    in-array = order-same (nodeAt f) (held nodes) n (λ j l. sym (tied j l))
 
     pub out-of-order : {i : ℕ} → OrderTested (held nodes) n i → i < n → Refused f (Order i)
     out-of-order (broken i l below bad) h =
@@ -64,7 +66,8 @@ module _ (f nodes : List ℕ) (n : ℕ) (framed : Framed f) (here : n ≡ count 
           let same = same-count (held nodes) (nodeAt f) n tied in
           by-repeats (b .0) i formed (omega arith) (sym (same i (omega arith)) ∙ p .0) (sym (same (suc i) l) ∙ p .1)
 
-      pub opens : repeatsBelow (held nodes) n ≤ 32 → Opens f nodes (Nodes n)
-      opens few =
+      pub filled : repeatsBelow (held nodes) n ≤ 32 → Filled f nodes n
+      filled few =
           let same = same-count (held nodes) (nodeAt f) n tied n (omega arith) ∙ ap (repeatsBelow (nodeAt f)) here in
-          (here, (b .0, record { formed = formed; few = subst (λ (k : ℕ). k ≤ 32) same few }), tied)
+          let within = subst (λ (k : ℕ). k ≤ 32) same few in
+          record { counted = here; expr = b .0; holds = record { formed = formed; few = within }; tied = tied }

@@ -2,4 +2,5 @@
 pub mod Entry
 pub mod Tests
 pub mod Parts
+pub mod Repeats
 pub mod Opening

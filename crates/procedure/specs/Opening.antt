@@ -9,7 +9,14 @@ use Rattle.procedure.specs.declared.Opened.{Opened}
 use Rattle.procedure.specs.declared.Opened.the-variants as opened
 use Rattle.procedure.specs.Entry.{Tied}
 
--- the file holds an expression, and the first n entries are its n nodes; or it is refused
+-- the file holds an expression of n nodes, which are the first n entries
+pub record Filled (f nodes : List ℕ) (n : ℕ) : Type 0 where
+  pub counted : n ≡ count f
+  pub expr : Expr
+  pub holds : Holds f expr
+  pub tied : Tied f nodes n
+
+-- the entries are filled, or the file is refused
 abbrev pub Opens : List ℕ → List ℕ → Opened → Type 0
-Opens f nodes (opened.Nodes n) = (n ≡ count f) × ((e : Expr) × Holds f e) × Tied f nodes n
+Opens f nodes (opened.Nodes n) = Filled f nodes n
 Opens f nodes (opened.Refused r) = Refused f r

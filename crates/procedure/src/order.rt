@@ -2,7 +2,7 @@
 ghost use mathlib.Core.Path.{_≡_};
 ghost use Prim.Native.Nat.{ℕ, _≤_, _<_};
 ghost use Rattle.meaning.specs.Node.{InTable};
-ghost use Rattle.procedure.specs.Entry.{held};
+ghost use Rattle.procedure.specs.Entry.{held, rightOf, unpacked};
 ghost use Rattle.procedure.specs.Parts.{OrderTested, Started, StartsAt};
 use crate::entry;
 
@@ -12,6 +12,13 @@ pub enum Start {
     At(usize),
     // Nowhere: the node is out of order.
     Nowhere,
+}
+
+// What a choice or a sequence calls its right child.
+fn right_of(entry: u64) -> usize
+    ensures { λ r. ⌜ r ≡ rightOf (unpacked entry) ⌝ }
+{
+    (entry / entry::SECOND % entry::FIELD) as usize
 }
 
 fn wide(x: u16) -> usize
@@ -49,7 +56,7 @@ fn start_of(nodes: &[u64; 512], starts: &[u16; 512], i: usize) -> Start
         }
         return Start::At(before);
     }
-    if entry::right_of(entry) != i - 1 {
+    if right_of(entry) != i - 1 {
         return Start::Nowhere;
     }
     if before < 1 {

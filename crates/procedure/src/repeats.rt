@@ -1,11 +1,12 @@
 // The test 6: the number of repeats.
 ghost use mathlib.Core.Path.{_≡_};
-ghost use Prim.Native.Nat.{suc, _≤_, _<_};
-ghost use Rattle.meaning.specs.Node.{isRepeat, repeatsBelow};
+ghost use Prim.Native.Nat.{_≤_};
+ghost use Rattle.meaning.specs.Node.{isRepeat};
 ghost use Rattle.procedure.specs.Entry.{held, unpacked};
+ghost use Rattle.procedure.specs.Repeats.{RepeatOver};
 use crate::entry;
 
-// A file may have so many.
+// A file may have so many repeats.
 pub const MOST_REPEATS: usize = 32;
 
 // 1 for a repeat, 0 for any other node.
@@ -20,12 +21,10 @@ fn repeat_in(entry: u64) -> usize
     }
 }
 
-// The first repeat past the most that there may be, or n where there is none.
+// The first repeat past the most that there may be among the first n nodes, or n where there is none.
 pub fn repeat_over(nodes: &[u64; 512], n: usize) -> usize
     requires { ⌜ n ≤ 512 ⌝ }
-    ensures { λ r. ⌜ r ≤ n ⌝ }
-    ensures { λ r. ⌜ (r < n → (repeatsBelow (held (now (nodes .entry))) r ≡ 32) × (repeatsBelow (held (now (nodes .entry))) (suc r) ≡ 33)) ⌝ }
-    ensures { λ r. ⌜ (r ≡ n → repeatsBelow (held (now (nodes .entry))) n ≤ 32) ⌝ }
+    ensures { λ r. ⌜ RepeatOver (held (now (nodes .entry))) n r ⌝ }
 {
     let mut count = 0;
     let mut i = 0;

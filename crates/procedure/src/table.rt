@@ -1,9 +1,8 @@
 // The test 4: the node records against the table.
-ghost use mathlib.Core.Path.{_≡_};
-ghost use Prim.Native.Nat.{ℕ, _≤_, _<_};
+ghost use Prim.Native.Nat.{_≤_};
 ghost use Rattle.meaning.specs.Node.{InTable};
 ghost use Rattle.procedure.specs.Entry.{BoundsWritten, NoFields, held, unpacked};
-ghost use Rattle.procedure.specs.Tests.{Decides};
+ghost use Rattle.procedure.specs.Tests.{Decides, LowestNot};
 use crate::entry;
 
 const MOST_CODE: u32 = 63;
@@ -14,7 +13,7 @@ const MOST_BOUND: u16 = 4096;
 fn no_fields(entry: u64) -> bool
     ensures { λ r. ⌜ Decides (NoFields (unpacked entry)) r ⌝ }
 {
-    if 65535 < entry {
+    if entry::FIRST <= entry {
         return false;
     }
     true
@@ -72,15 +71,14 @@ fn in_table(entry: u64) -> bool
     true
 }
 
-// The lowest node that breaks the table, or n where none does.
+// The lowest of the first n nodes that breaks the table, or n where none does.
 pub fn lowest_off_table(nodes: &[u64; 512], n: usize) -> usize
-    requires { ⌜ n ≤ 512 ⌝ }
-    ensures { λ r. ⌜ r ≤ n ⌝ }
-    ensures { λ r. ⌜ ((j : ℕ) → j < r → InTable (held (now (nodes .entry)) j)) ⌝ }
-    ensures { λ r. ⌜ (r < n → ¬ InTable (held (now (nodes .entry)) r)) ⌝ }
+    requires { ⌜ (1 ≤ n) × (n ≤ 512) ⌝ }
+    ensures { λ r. ⌜ LowestNot (λ j. InTable (held (now (nodes .entry)) j)) n r ⌝ }
 {
+    let last = n - 1;
     let mut i = 0;
-    while i < n {
+    while i <= last {
         if !in_table(nodes[i]) {
             return i;
         }

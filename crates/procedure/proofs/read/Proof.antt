@@ -6,9 +6,9 @@ use native.Mathlib.Omega.{arith}
 use borrow.Author.Needs.{needs}
 use Rattle.meaning.specs.Node.{InTable}
 use Rattle.meaning.specs.File.{Framed, Lettered, Measured, Sized, by-letters, by-measures, by-size}
-use Rattle.procedure.specs.Entry.{Tied, held}
+use Rattle.procedure.specs.Entry.{held}
 use Rattle.procedure.proofs.Deciding.{fails, holds}
-use Rattle.procedure.proofs.Openings.{off-table, opens, out-of-order, tested-whole, too-many}
+use Rattle.procedure.proofs.Openings.{filled, off-table, out-of-order, tested-whole, too-many}
 use Rattle.procedure.proofs.read.Statement.{statement}
 use Rattle.procedure.proofs.read.Tie as tie
 
@@ -39,7 +39,7 @@ framed m =
     (sized (e .before .before .before .before), lettered (e .before .before), measured e)
 
 kept : (m : tie.Else4) (j : ℕ) → j < n (m .before .before .before) → InTable (held (entries (m .before .before .before)) j)
-kept m j l = m .before .lowest-off-table .ensures .1 .0 j (omega arith)
+kept m j l = m .before .lowest-off-table .ensures .below j (omega arith)
 
 few-nodes : (m : tie.After-fill) → (1 ≤ n m) × (n m ≤ 512)
 few-nodes m = let e = measured (m .before .before .before) in (omega (arith, e .0, m .before .before .count-of .ensures .0), omega (arith, e .1, m .before .before .count-of .ensures .0))
@@ -76,7 +76,7 @@ fill-requires c κs =
     (omega (arith, e .1, c .fill-arg .given .0 .1), (e, counted))
 
 lowest-off-table-requires : tie.Need-lowest-off-table-requires
-lowest-off-table-requires c κs = few-nodes (c .before) .1
+lowest-off-table-requires c κs = few-nodes (c .before)
 
 returns-4 : tie.Need-returns-4
 returns-4 c =
@@ -91,8 +91,8 @@ returns-4 c =
     (m .fill .ensures)
     (found .result)
     (c .if4 .taken)
-    (found .ensures .1 .0)
-    (found .ensures .1 .1 (c .if4 .taken))
+    (found .ensures .below)
+    (found .ensures .here (c .if4 .taken))
 
 lowest-out-of-order-requires : tie.Need-lowest-out-of-order-requires
 lowest-out-of-order-requires c κs = (few-nodes (c .before .before .before .before), kept (c .before))
@@ -122,14 +122,14 @@ returns-6 c =
     (tested-whole (o .before .lowest-out-of-order .ensures) (o .if5 .left))
     (c .before .repeat-over .result)
     (c .if6 .taken)
-    (c .before .repeat-over .ensures .1 .0 (c .if6 .taken))
+    (c .before .repeat-over .ensures .here (c .if6 .taken))
 
 returns-7 : tie.Need-returns-7
 returns-7 c =
     let o = c .before .before .before in
     let e = o .before .before .before in
     let m = e .before .before .before in
-    opens
+    filled
     (file m)
     (entries m)
     (n m)
@@ -138,7 +138,7 @@ returns-7 c =
     (m .fill .ensures)
     (kept e)
     (tested-whole (o .before .lowest-out-of-order .ensures) (o .if5 .left))
-    (c .before .repeat-over .ensures .1 .1 (omega arith))
+    (c .before .repeat-over .ensures .few (c .if6 .left))
 
 pub read-spec : {M : Type 1} → statement M
 read-spec =

@@ -1,5 +1,5 @@
 -- The proof of the cycle of calls {sets_of}: the measure is the node number. Assumes nothing.
-use mathlib.Core.Path.{_≡_}
+use mathlib.Core.Path.{_≡_, sym, _∙_}
 use Prim.Native.Nat.{ℕ, _-_, _≤_, _<_}
 use native.Mathlib.Omega.{arith}
 use borrow.Author.Needs.{needs}
@@ -7,9 +7,10 @@ use borrow.Fn.Kinds.{In}
 use borrow.Fn.PlainCycle.{Measures, is, falls, and}
 use Rattle.meaning.specs.Node.{Node, InOrder}
 use Rattle.procedure.specs.Entry.{held}
+use Rattle.procedure.proofs.Nodes.{bounds-kept}
 use Rattle.judge.specs.Sets.{TableUpTo}
 use Rattle.judge.proofs.Leaves.{leaf-at}
-use Rattle.judge.proofs.Standing.{Child, choice-at, last-in-order, left-in-order, repeat-at, sequence-at, table-here, table-lower}
+use Rattle.judge.proofs.Standing.{Child, choice-at, last-in-order, left-in-order, repeat-at, sequence-at, table-here}
 use Rattle.judge.proofs.sets.sets_of.Reads as sets-of
 use Rattle.judge.proofs.sets.sets_of.Kinds as sets-of-kinds
 use Rattle.judge.proofs.sets.+sets_of.Lts-sets_of as sets-of-lts
@@ -97,7 +98,7 @@ sets-of-repeat-sets-requires : (t : ℕ) → sets-of-lts.Need-repeat-sets-requir
 sets-of-repeat-sets-requires t c κs =
     let kind = c .before .before .before in
     let start = kind .before .before in
-    table-lower (table-here (held-by start) (start .args .i) (start .pre .1 .1 .1)) (kind .kind-of .ensures) (c .if2 .taken)
+    bounds-kept (held-by start (start .args .i)) (table-here (held-by start) (start .args .i) (start .pre .1 .1 .1)) (sym (kind .kind-of .ensures) ∙ c .if2 .taken) .0
 
 sets-of-returns-2 : (t : ℕ) → sets-of-lts.Need-returns-2 (calls t) (sets-of-at t) sets-of.Post
 sets-of-returns-2 t c =

@@ -6,8 +6,8 @@ use native.Mathlib.Omega.{arith}
 use borrow.Author.Needs.{needs}
 use Rattle.meaning.specs.Codes.{Has}
 use Rattle.procedure.specs.Entry.{codeOf, unpacked}
+use Rattle.procedure.proofs.Nodes.{event-kept}
 use Rattle.judge.proofs.Leaves.{leaf-empty, leaf-event}
-use Rattle.judge.proofs.Standing.{table-code}
 use Rattle.judge.proofs.sets.leaf_sets.Statement.{statement}
 use Rattle.judge.proofs.sets.leaf_sets.Tie as tie
 
@@ -36,7 +36,7 @@ one-requires : tie.Need-one-requires
 one-requires c κs =
     let start = c .before .before .before in
     let code : c .code-of .result ≡ codeOf (unpacked (start .args .node)) = c .code-of .ensures in
-    let small = table-code (start .pre .1) (event-kind (start .pre .0) (λ z. c .before .if1 .left (c .before .before .kind-of .ensures ∙ z))) in
+    let small = event-kept (unpacked (start .args .node)) (start .pre .1) (event-kind (start .pre .0) (λ z. c .before .if1 .left (c .before .before .kind-of .ensures ∙ z))) in
     omega arith
 
 none-requires-3 : tie.Need-none-requires-3

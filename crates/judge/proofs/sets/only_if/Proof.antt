@@ -1,10 +1,7 @@
 -- `judge::sets::only_if` meets its contract. Assumes nothing.
-use mathlib.Core.Bool.{Bool, So, true, false, false≢true}
-use mathlib.Core.Logic.{_↔_}
-use mathlib.Core.Path.{_≡_, sym, _∙_}
-use Prim.Native.Nat.{ℕ}
+use mathlib.Core.Bool.{false≢true}
+use mathlib.Core.Path.{sym, _∙_}
 use borrow.Author.Needs.{needs}
-use Rattle.meaning.specs.Codes.{Has}
 use Rattle.judge.proofs.sets.only_if.Statement.{statement}
 use Rattle.judge.proofs.sets.only_if.Tie as tie
 

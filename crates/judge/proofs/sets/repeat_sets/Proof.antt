@@ -26,7 +26,7 @@ normal-lower-requires c κs = search needs
 
 flexible-requires : tie.Need-flexible-requires
 flexible-requires c κs =
-    let lower = c .before .before .before .before .before .before in
+    let lower = c .before .before .before .before .before in
     omega (arith, c .normal-lower .ensures, lower .lower-of .ensures, lower .before .pre, normal-at-most (lower .before .args .b .nullable) (lower .lower-of .result))
 
 only-if-requires-2 : tie.Need-only-if-requires-2
@@ -40,28 +40,28 @@ or-else-requires c κs = search needs
 
 returns : tie.Need-returns
 returns c =
-    let more = c .before .before in
-    let least = more .before .before in
-    let own = least .before .before in
+    let may-follow = c .before .before .before in
+    let least = may-follow .before .before in
+    let own = least .before in
     let upper = own .before .before .before in
     let lower = upper .before in
     let a = lower .before .args in
     bounds-read (a .i) _ _ _ _ (a .b) _ (lower .lower-of .ensures) (upper .upper-of .ensures)
     (repeats (a .i) (lower .lower-of .result) (upper .upper-of .result) (a .b)
     (own .before .before .again .result)
-    (more .before .flexible .result)
+    (may-follow .before .flexible .result)
     (least .normal-lower .result)
     (own .before .only-if .result)
-    (more .only-if2 .result)
+    (may-follow .only-if2 .result)
     _
     (own .shared-at .result)
     _
     (own .before .before .again .ensures)
     (least .normal-lower .ensures)
-    (more .before .flexible .ensures)
+    (may-follow .before .flexible .ensures)
     (own .before .only-if .ensures)
     (own .shared-at .ensures)
-    (more .only-if2 .ensures)
+    (may-follow .only-if2 .ensures)
     (c .before .union .ensures .0)
     (c .or-else .ensures))
 

@@ -46,11 +46,11 @@ returns c =
     let first = after .before .before .before in
     let own = first .before .before .before in
     let follows = own .before .before .before in
-    let passed = follows .before .before in
-    let a = passed .before .args in
+    let begins = follows .before .before in
+    let a = begins .before .args in
     joins-sequence (a .i) (a .l) (a .r)
     (follows .before .has-any .result)
-    (passed .only-if .result)
+    (begins .only-if .result)
     (follows .only-if2 .result)
     _
     _
@@ -60,7 +60,7 @@ returns c =
     (own .before .shared-at2 .result)
     (own .or-else .result)
     _
-    (passed .only-if .ensures)
+    (begins .only-if .ensures)
     (follows .before .has-any .ensures)
     (follows .only-if2 .ensures)
     (own .before .before .shared-at .ensures)

@@ -98,12 +98,12 @@ sub-result c = search needs
 returns-2 : tie.Need-returns-2 Inv-loop μ-loop
 returns-2 c =
     let a = c .before .before in
-    late-start (held (a .before .args .nodes .now)) (a .loop .starts) (a .before .args .n) (omega arith) (all (c .before)) (c .if1 .taken)
+    late-start (held (a .before .args .nodes .now)) (a .loop .starts) (a .before .args .n) (omega arith) (all (c .before)) (omega arith)
 
 returns-3 : tie.Need-returns-3 Inv-loop μ-loop
 returns-3 c =
     let a = c .before .before in
-    whole-start (held (a .before .args .nodes .now)) (a .loop .starts) (a .before .args .n) (omega arith) (all (c .before)) (c .if1 .left)
+    whole-start (held (a .before .args .nodes .now)) (a .loop .starts) (a .before .args .n) (omega arith) (all (c .before)) (omega arith)
 
 pub lowest-out-of-order-spec : {M : Type 1} → statement M
 lowest-out-of-order-spec =

@@ -82,7 +82,7 @@ returns-7 : tie.Need-returns-7
 returns-7 c =
     let w = c .before .before .before .before .before .before in
     let a = start w in
-    left-off (held (a .args .nodes .now)) (w .wide .result) (a .args .i) (omega arith) (omega arith) (above w) (λ p. c .if7 .taken (c .before .left-of .ensures ∙ p .1))
+    left-off (held (a .args .nodes .now)) (w .wide .result) (a .args .i) (omega arith) (omega arith) (above w) (λ p. omega arith)
 
 mul-wide-2 : tie.Need-mul-wide-2
 mul-wide-2 c =

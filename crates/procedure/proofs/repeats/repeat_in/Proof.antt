@@ -1,5 +1,5 @@
 -- `procedure::repeats::repeat_in` meets its contract, by the kind. Assumes nothing.
-use mathlib.Core.Path.{sym, _∙_}
+use mathlib.Core.Path.{sym}
 use native.Mathlib.Omega.{arith}
 use borrow.Author.Needs.{needs}
 use Rattle.procedure.specs.Entry.{unpacked}

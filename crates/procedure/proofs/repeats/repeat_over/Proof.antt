@@ -32,7 +32,7 @@ add-count : tie.Need-add-count Inv-loop μ-loop
 add-count c = search needs
 
 returns : tie.Need-returns Inv-loop μ-loop
-returns c = (omega arith, (λ l. (omega arith, omega arith), λ e. absurd (omega arith)))
+returns c = record { within = omega arith; here = λ l. (omega arith, omega arith); few = λ l. absurd (omega arith) }
 
 add-i : tie.Need-add-i Inv-loop μ-loop
 add-i c = search needs
@@ -51,7 +51,7 @@ returns-2 c =
     let a = c .before in
     let all : a .loop .i ≡ a .before .args .n = omega arith in
     let same = ap (repeatsBelow (held (a .before .args .nodes .now))) all in
-    (omega arith, (λ l. absurd (omega arith), λ e. omega arith))
+    record { within = omega arith; here = λ l. absurd (omega arith); few = λ l. omega arith }
 
 pub repeat-over-spec : {M : Type 1} → statement M
 repeat-over-spec =

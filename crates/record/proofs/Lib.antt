@@ -1,0 +1,11 @@
+-- The laws that belong to no one function.
+mod Answers
+mod Blocks
+mod Bounds
+mod Bytes
+mod Empties
+mod Heads
+mod Standing
+mod Stays
+mod Takes
+mod Walks

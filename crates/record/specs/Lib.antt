@@ -1,0 +1,2 @@
+-- What the contracts on records cite.
+pub mod Walk
