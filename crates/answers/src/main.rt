@@ -27,9 +27,21 @@ fn answer_judge(file: &mut [u8]) -> bool {
     print_end()
 }
 
+fn answer_check(file: &mut [u8], bytes: &mut [u8]) -> bool {
+    let length = read_slice(file);
+    let count = read_slice(bytes);
+    let mut yes = JUNK;
+    let answer = seqp::seq_check(&file[..length], &bytes[..count], &mut yes);
+    io::write_all(STDOUT_FILENO, b"C");
+    print_number(answer as u64);
+    print_number(yes as u64);
+    print_end()
+}
+
 // Answers one call by its letter, and says whether there was one. There is a buffer for each slice that a call can have.
 fn answer_one(first: &mut [u8], second: &mut [u8], third: &mut [u8]) -> bool {
     match read_letter() {
+        b'C' => answer_check(first, second),
         b'J' => answer_judge(first),
         _ => false,
     }
