@@ -20,10 +20,9 @@
 #include "station/record.h"
 #include "station/refusal.h"
 #include "station/run.h"
+#include "station/stored.h"
 
 enum { MOST_LINE = 1000 };
-/* A run of one event inside 32 repeats has so many items, and each further event adds no more. */
-enum { MOST_ITEMS_AN_EVENT = 2 * SEQ_MOST_REPEATS + 1 };
 
 enum status { WELL = 0, REFUSED = 1, NOT_BEGUN = 2 };
 
@@ -45,7 +44,7 @@ static void refused(struct station *s)
 
 static uint8_t *written_record(struct station *s, uint64_t *length)
 {
-    const size_t room = SEQ_ITEM_BYTES * MOST_ITEMS_AN_EVENT * s->run.length + 1;
+    const size_t room = SEQ_ITEM_BYTES * MOST_ITEMS_AN_EVENT * s->run.length + 1; /* also for no events some */
     uint8_t *space = malloc(room);
     uint32_t answer;
     if (space == NULL) {
@@ -71,35 +70,12 @@ static int is_checked(const struct station *s, const uint8_t *record, size_t len
     return seq_check(s->procedure.bytes, s->procedure.length, record, length, &yes) == SEQ_DONE && yes == 1;
 }
 
-static int is_there(const char *path)
-{
-    FILE *file = fopen(path, "rb");
-    if (file != NULL)
-        fclose(file);
-    return file != NULL;
-}
-
-static int store(const char *path, const uint8_t *record, size_t length)
-{
-    if (is_there(path)) {
-        printf("Not saved: %s is there already. Choose another name.\n", path);
-        return 0;
-    }
-    FILE *file = fopen(path, "wb");
-    int stored = file != NULL && fwrite(record, 1, length, file) == length;
-    if (file != NULL && fclose(file) != 0)
-        stored = 0;
-    if (!stored)
-        printf("Not saved: cannot write %s: %s\n", path, strerror(errno));
-    return stored;
-}
-
 static void save_record(struct station *s, const char *path, const uint8_t *record, size_t length)
 {
     if (!is_checked(s, record, length)) {
         printf("Not saved: the record does not pass its check.\n");
         refused(s);
-    } else if (*path != '\0' && !store(path, record, length)) {
+    } else if (*path != '\0' && !store_record(path, record, length)) {
         refused(s);
     } else {
         printf("Record of %zu bytes, checked%s%s:\n", length, *path != '\0' ? ", saved in " : "", path);
@@ -107,26 +83,6 @@ static void save_record(struct station *s, const char *path, const uint8_t *reco
         if (*path == '\0')
             printf("Type save FILE to keep it in a file.\n");
     }
-}
-
-/* Reads a record that was saved, at most as long as one that the station saves, or says why it can't. */
-static uint8_t *loaded_record(const char *path, size_t *length)
-{
-    const size_t most = (size_t)SEQ_ITEM_BYTES * MOST_ITEMS_AN_EVENT * SEQ_MOST_RUN;
-    uint8_t *record = malloc(most + 1);
-    FILE *file = fopen(path, "rb");
-    *length = file == NULL || record == NULL ? 0 : fread(record, 1, most + 1, file);
-    const int failed = file == NULL || record == NULL || ferror(file);
-    if (failed)
-        printf("Cannot read %s: %s\n", path, strerror(errno));
-    else if (*length > most)
-        printf("%s is too long: a record of this station has at most %zu bytes.\n", path, most);
-    if (file != NULL)
-        fclose(file);
-    if (!failed && *length <= most)
-        return record;
-    free(record);
-    return NULL;
 }
 
 /* The commands. */
@@ -150,7 +106,7 @@ static void save(struct station *s, const char *path)
 static void check(struct station *s, const char *path)
 {
     size_t length;
-    uint8_t *record = loaded_record(path, &length);
+    uint8_t *record = load_record(path, &length);
     if (record == NULL) {
         refused(s);
     } else if (!is_checked(s, record, length)) {

@@ -113,6 +113,9 @@ def parts():
         name = manifest.parent.name
         command = ["cargo", "test", "--release", "--offline", "--manifest-path", f"tests/{name}/Cargo.toml"]
         yield f"the tests of tests/{name}", command, counted_by_cargo, {"CARGO_TARGET_DIR": str(BUILD / "cargo" / name)}
+    yield "the procedures of examples", ["python3", "scripts/procedures", "--check"], counted_by_verdict, {}
+    yield "the header and the archive from C", ["python3", "scripts/c-tests"], counted_by_verdict, {}
+    yield "the station on its scripts", ["python3", "scripts/station-tests"], counted_by_verdict, {}
 
 
 # Commands that Debian has, by package; rt comes with the machine.
