@@ -72,8 +72,8 @@ static void follow_one_by_one(struct tally *t, const char *name, const struct ru
     state_bytes(&c->after, after);
 
     begin_case(t, "follow, %s, an event a call", name);
-    expect_number(t, "the answer", seq_follow(file.bytes, file.length, state, sizeof state, events, 0, &taken, &verdict),
-                  SEQ_DONE);
+    expect_number(t, "the answer",
+                  seq_follow(file.bytes, file.length, state, sizeof state, events, 0, &taken, &verdict), SEQ_DONE);
     for (size_t i = 0; i < length && verdict != SEQ_BROKEN; i++) {
         expect_number(t, "the answer",
                       seq_follow(file.bytes, file.length, state, sizeof state, events + i, 1, &taken, &verdict),
