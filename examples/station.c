@@ -1,0 +1,372 @@
+/*
+ * A bench station on a console: it loads a procedure, lights the keys that can come next, takes events as they
+ * are typed, says at once how the run stands, and saves the record of a complete run.
+ *
+ *     station [--script FILE] PROCEDURE
+ *
+ * Commands are read line by line from standard input, or from a script, which is shown as it is read. Output is
+ * plain ASCII. The exit status is 0 if all went well, 1 if something was refused or not understood, and 2 if the
+ * station could not begin.
+ */
+#include <errno.h>
+#include <inttypes.h>
+#include <stdio.h>
+#include <stdlib.h>
+#include <string.h>
+
+#include "station/keys.h"
+#include "station/notation.h"
+#include "station/procedure.h"
+#include "station/record.h"
+#include "station/refusal.h"
+#include "station/run.h"
+#include "station/stored.h"
+
+enum { MOST_LINE = 1000 };
+
+enum status { WELL = 0, REFUSED = 1, NOT_BEGUN = 2 };
+
+struct station {
+    struct procedure procedure;
+    struct keys keys;
+    struct run run;
+    enum status status;
+    int quits;
+};
+
+/* Something was refused or not understood: the station goes on and tells it by its exit status. */
+static void refused(struct station *s)
+{
+    s->status = REFUSED;
+}
+
+/* Records. */
+
+static uint8_t *written_record(struct station *s, uint64_t *length)
+{
+    const size_t room = SEQ_ITEM_BYTES * MOST_ITEMS_AN_EVENT * s->run.length + 1; /* also for no events some */
+    uint8_t *space = malloc(room);
+    uint32_t answer;
+    if (space == NULL) {
+        printf("Not saved: there is no memory for the record.\n");
+        return NULL;
+    }
+    answer = seq_write(s->procedure.bytes, s->procedure.length, s->run.events, s->run.length, space, room, length);
+    if (answer == SEQ_DONE)
+        return space;
+    if (answer == SEQ_RUN_INCOMPLETE) {
+        printf("Not saved: the run is unfinished. ");
+        print_lit(&s->procedure, &s->keys, &s->run);
+    } else {
+        printf("Not saved: seq_write gives answer %" PRIu32 ".\n", answer);
+    }
+    free(space);
+    return NULL;
+}
+
+static int is_checked(const struct station *s, const uint8_t *record, size_t length)
+{
+    uint32_t yes;
+    return seq_check(s->procedure.bytes, s->procedure.length, record, length, &yes) == SEQ_DONE && yes == 1;
+}
+
+static void save_record(struct station *s, const char *path, const uint8_t *record, size_t length)
+{
+    if (!is_checked(s, record, length)) {
+        printf("Not saved: the record does not pass its check.\n");
+        refused(s);
+    } else if (*path != '\0' && !store_record(path, record, length)) {
+        refused(s);
+    } else {
+        printf("Record of %zu bytes, checked%s%s:\n", length, *path != '\0' ? ", saved in " : "", path);
+        print_record(&s->procedure, &s->keys, record, length);
+        if (*path == '\0')
+            printf("Type save FILE to keep it in a file.\n");
+    }
+}
+
+/* The commands. */
+
+static void save(struct station *s, const char *path)
+{
+    uint64_t length;
+    if (s->run.verdict == SEQ_BROKEN) {
+        printf("Not saved: the run is broken. Type new to begin anew.\n");
+        refused(s);
+        return;
+    }
+    uint8_t *record = written_record(s, &length);
+    if (record == NULL)
+        refused(s);
+    else
+        save_record(s, path, record, length);
+    free(record);
+}
+
+static void check(struct station *s, const char *path)
+{
+    size_t length;
+    uint8_t *record = load_record(path, &length);
+    if (record == NULL) {
+        refused(s);
+    } else if (!is_checked(s, record, length)) {
+        printf("No: %s is no record of this procedure.\n", path);
+        refused(s);
+    } else {
+        printf("Yes: %s is a record of this procedure, %zu bytes:\n", path, length);
+        print_record(&s->procedure, &s->keys, record, length);
+    }
+    free(record);
+}
+
+static void keys(struct station *s, const char *nothing)
+{
+    (void)nothing;
+    print_lit(&s->procedure, &s->keys, &s->run);
+}
+
+static void run(struct station *s, const char *nothing)
+{
+    (void)nothing;
+    print_run(&s->keys, &s->run);
+}
+
+static void show(struct station *s, const char *nothing)
+{
+    (void)nothing;
+    print_part(&s->procedure, node_count(&s->procedure) - 1);
+    printf("\n");
+}
+
+static void begin(struct station *s, const char *nothing)
+{
+    (void)nothing;
+    begin_run(&s->procedure, &s->run);
+    printf("A new run: %s. ", verdict_name(s->run.verdict));
+    print_lit(&s->procedure, &s->keys, &s->run);
+}
+
+static void quit(struct station *s, const char *nothing)
+{
+    (void)nothing;
+    s->quits = 1;
+}
+
+static void help(struct station *s, const char *nothing);
+
+enum argument { NONE, MAYBE, NEEDED };
+
+static const struct command {
+    const char *name;
+    enum argument argument;
+    void (*act)(struct station *s, const char *argument);
+    const char *help;
+} commands[] = {
+    {"keys", NONE, keys, "keys         the keys that are lit: those that can come next"},
+    {"run", NONE, run, "run          the events so far"},
+    {"new", NONE, begin, "new          begin a new run"},
+    {"save", MAYBE, save, "save FILE    write, check and show the record of a complete run; FILE may be left out"},
+    {"check", NEEDED, check, "check FILE   check and show a record that was saved"},
+    {"show", NONE, show, "show         the procedure in its notation"},
+    {"help", NONE, help, "help         this text"},
+    {"quit", NONE, quit, "quit         leave"},
+};
+enum { COMMANDS = sizeof commands / sizeof commands[0] };
+
+static void help(struct station *s, const char *nothing)
+{
+    (void)s, (void)nothing;
+    printf("11           the event with code 11 (e11 will do too), several with spaces between\n"
+           "11*6         the same event six times\n");
+    for (int i = 0; i < COMMANDS; i++)
+        printf("%s\n", commands[i].help);
+}
+
+/* Events. */
+
+/* Reads 11, e11, 11*6 or e11*6, and says what is wrong otherwise. */
+static int read_event(const char *word, unsigned *code, size_t *times)
+{
+    const char *digits = word[0] == 'e' ? word + 1 : word;
+    char *behind;
+    const unsigned long number = strtoul(digits, &behind, 10);
+    unsigned long count = 1;
+    if (*digits < '0' || *digits > '9' || (*behind != '\0' && *behind != '*')) {
+        printf("\"%s\" is no event and no command. Type help for what there is.\n", word);
+        return 0;
+    }
+    if (number > SEQ_MOST_CODE) {
+        printf("There is no key %s. Keys are 0 to %d.\n", word, SEQ_MOST_CODE);
+        return 0;
+    }
+    if (*behind == '*') {
+        const char *counted = behind + 1;
+        count = strtoul(counted, &behind, 10);
+        if (*counted < '0' || *counted > '9' || *behind != '\0' || count < 1 || count > SEQ_MOST_RUN) {
+            printf("\"%s\": behind the * comes a number from 1 to %d.\n", word, SEQ_MOST_RUN);
+            return 0;
+        }
+    }
+    *code = (unsigned)number;
+    *times = count;
+    return 1;
+}
+
+/* Takes the events of a line in turn, up to the first that is not understood or breaks the run. */
+static void take_events(struct station *s, char *word)
+{
+    unsigned code;
+    size_t times;
+    for (; word != NULL; word = strtok(NULL, " \t"))
+        if (!read_event(word, &code, &times) || !take_key(&s->procedure, &s->keys, &s->run, code, times)) {
+            refused(s);
+            return;
+        }
+}
+
+/* The console. */
+
+static void obey(struct station *s, const struct command *command, const char *argument, int more)
+{
+    if (command->argument == NEEDED && argument == NULL)
+        printf("%s wants a FILE.\n", command->name);
+    else if (command->argument == NONE && argument != NULL)
+        printf("%s takes nothing behind it.\n", command->name);
+    else if (more)
+        printf("%s takes one FILE, without spaces in its name.\n", command->name);
+    else {
+        command->act(s, argument == NULL ? "" : argument);
+        return;
+    }
+    refused(s);
+}
+
+static void take_line(struct station *s, char *line)
+{
+    char *word = strtok(line, " \t");
+    if (word == NULL || word[0] == '#')
+        return;
+    for (int i = 0; i < COMMANDS; i++)
+        if (strcmp(word, commands[i].name) == 0) {
+            const char *argument = strtok(NULL, " \t");
+            obey(s, &commands[i], argument, argument != NULL && strtok(NULL, " \t") != NULL);
+            return;
+        }
+    take_events(s, word);
+}
+
+/* Reads a line without its end; gives its whole length, which may be more than was kept, or -1 at the end. */
+static long read_line(FILE *from, char line[MOST_LINE + 1])
+{
+    long length = 0;
+    int sign = getc(from);
+    if (sign == EOF)
+        return -1;
+    for (; sign != '\n' && sign != EOF; sign = getc(from)) {
+        if (length < MOST_LINE)
+            line[length] = (char)sign;
+        length++;
+    }
+    if (length > 0 && length <= MOST_LINE && line[length - 1] == '\r')
+        length--;
+    line[length <= MOST_LINE ? length : MOST_LINE] = '\0';
+    return length;
+}
+
+static void converse(struct station *s, FILE *from, int is_script)
+{
+    char line[MOST_LINE + 1];
+    while (!s->quits) {
+        if (!is_script) {
+            printf("> ");
+            fflush(stdout);
+        }
+        const long length = read_line(from, line);
+        if (length < 0)
+            break;
+        if (is_script)
+            printf("> %s\n", line);
+        if (length > MOST_LINE) {
+            printf("The line is too long: at most %d characters are read.\n", MOST_LINE);
+            refused(s);
+        } else {
+            take_line(s, line);
+        }
+        fflush(stdout);
+    }
+    if (!is_script && !s->quits)
+        printf("\n");
+}
+
+/* The beginning. */
+
+static int is_admitted(struct station *s, const char *path)
+{
+    struct judgement given;
+    given.answer = seq_judge(s->procedure.bytes, s->procedure.length, &given.node, &given.kind, &given.code);
+    if (given.answer == SEQ_DONE || given.answer > SEQ_LAYOUT)
+        read_keys(&s->procedure, &s->keys);
+    if (given.answer == SEQ_DONE) {
+        printf("%s: admitted, %u node%s.\n", path, node_count(&s->procedure),
+               node_count(&s->procedure) == 1 ? "" : "s");
+        print_text(&s->procedure);
+        return 1;
+    }
+    printf("%s: refused, answer %" PRIu32 ".\n", path, given.answer);
+    if (given.answer > SEQ_LAYOUT)
+        print_text(&s->procedure);
+    explain_refusal(&s->procedure, &s->keys, given);
+    return 0;
+}
+
+static int usage(const char *why, const char *word)
+{
+    if (why != NULL)
+        fprintf(stderr, "station: %s%s\n", why, word);
+    fprintf(why != NULL ? stderr : stdout,
+            "usage: station [--script FILE] PROCEDURE\n"
+            "  PROCEDURE      a procedure file, for example examples/procedures/zero.seqp\n"
+            "  --script FILE  take the commands from FILE and show them\n"
+            "The station reads a command a line; help lists them.\n");
+    return why != NULL ? NOT_BEGUN : WELL;
+}
+
+static int work(const char *path, const char *script)
+{
+    static struct station s;
+    FILE *from = script == NULL ? stdin : fopen(script, "r");
+    if (from == NULL) {
+        fprintf(stderr, "station: cannot open %s: %s\n", script, strerror(errno));
+        return NOT_BEGUN;
+    }
+    if (!load_procedure(path, &s.procedure))
+        return NOT_BEGUN;
+    if (!is_admitted(&s, path))
+        return REFUSED;
+    begin(&s, "");
+    converse(&s, from, script != NULL);
+    if (script != NULL)
+        fclose(from);
+    return s.status;
+}
+
+int main(int argc, char **argv)
+{
+    const char *path = NULL, *script = NULL;
+    for (int i = 1; i < argc; i++) {
+        if (strcmp(argv[i], "--help") == 0)
+            return usage(NULL, "");
+        if (strcmp(argv[i], "--script") == 0) {
+            if (++i == argc)
+                return usage("--script wants a FILE", "");
+            script = argv[i];
+        } else if (argv[i][0] == '-') {
+            return usage("there is no option ", argv[i]);
+        } else if (path != NULL) {
+            return usage("one procedure is enough, and there is another: ", argv[i]);
+        } else {
+            path = argv[i];
+        }
+    }
+    return path == NULL ? usage("which procedure?", "") : work(path, script);
+}

@@ -1,0 +1,47 @@
+#include "procedure.h"
+
+#include <errno.h>
+#include <stdio.h>
+#include <string.h>
+
+int load_procedure(const char *path, struct procedure *p)
+{
+    FILE *from = fopen(path, "rb");
+    if (from == NULL) {
+        fprintf(stderr, "station: cannot open %s: %s\n", path, strerror(errno));
+        return 0;
+    }
+    p->length = fread(p->bytes, 1, sizeof p->bytes, from);
+    const int failed = ferror(from);
+    if (failed)
+        fprintf(stderr, "station: cannot read %s: %s\n", path, strerror(errno));
+    fclose(from);
+    return !failed;
+}
+
+unsigned two_bytes(const uint8_t *at)
+{
+    return at[0] + 256U * at[1];
+}
+
+struct trailer trailer_of(const struct procedure *p)
+{
+    const uint8_t *at = p->bytes + p->length - TRAILER_BYTES;
+    return (struct trailer){at, two_bytes(at + 4), two_bytes(at + 6), two_bytes(at + 8) + 65536U * two_bytes(at + 10)};
+}
+
+unsigned node_count(const struct procedure *p)
+{
+    return trailer_of(p).nodes;
+}
+
+size_t text_length(const struct procedure *p)
+{
+    return p->length - TRAILER_BYTES - NODE_BYTES * (size_t)node_count(p);
+}
+
+struct node node_at(const struct procedure *p, unsigned number)
+{
+    const uint8_t *at = p->bytes + text_length(p) + NODE_BYTES * (size_t)number;
+    return (struct node){at[0], at[1], {two_bytes(at + 2), two_bytes(at + 4), two_bytes(at + 6)}};
+}

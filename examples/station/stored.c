@@ -1,0 +1,48 @@
+#include "stored.h"
+
+#include <errno.h>
+#include <stdio.h>
+#include <stdlib.h>
+#include <string.h>
+
+static int is_there(const char *path)
+{
+    FILE *file = fopen(path, "rb");
+    if (file != NULL)
+        fclose(file);
+    return file != NULL;
+}
+
+int store_record(const char *path, const uint8_t *record, size_t length)
+{
+    if (is_there(path)) {
+        printf("Not saved: %s is there already. Choose another name.\n", path);
+        return 0;
+    }
+    FILE *file = fopen(path, "wb");
+    int stored = file != NULL && fwrite(record, 1, length, file) == length;
+    if (file != NULL && fclose(file) != 0)
+        stored = 0;
+    if (!stored)
+        printf("Not saved: cannot write %s: %s\n", path, strerror(errno));
+    return stored;
+}
+
+uint8_t *load_record(const char *path, size_t *length)
+{
+    const size_t most = (size_t)SEQ_ITEM_BYTES * MOST_ITEMS_AN_EVENT * SEQ_MOST_RUN;
+    uint8_t *record = malloc(most + 1);
+    FILE *file = fopen(path, "rb");
+    *length = file == NULL || record == NULL ? 0 : fread(record, 1, most + 1, file);
+    const int failed = file == NULL || record == NULL || ferror(file);
+    if (failed)
+        printf("Cannot read %s: %s\n", path, strerror(errno));
+    else if (*length > most)
+        printf("%s is too long: a record of this station has at most %zu bytes.\n", path, most);
+    if (file != NULL)
+        fclose(file);
+    if (!failed && *length <= most)
+        return record;
+    free(record);
+    return NULL;
+}
