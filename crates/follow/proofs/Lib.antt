@@ -4,3 +4,4 @@ mod Beginnings
 mod Counting
 mod Climbing
 mod Downward
+mod Nearby

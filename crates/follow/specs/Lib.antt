@@ -4,3 +4,4 @@ pub mod Plan
 pub mod Counts
 pub mod Climb
 pub mod Filling
+pub mod Near

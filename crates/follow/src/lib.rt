@@ -3,3 +3,4 @@ mod table; // table.rt: the numbers of a plan's entry
 mod plan; // plan.rt: the plan of a procedure
 mod climb; // climb.rt: the way up from an event node
 mod turn; // turn.rt: the counters after a turn
+mod near; // near.rt: which event nodes can directly follow one another in the loosened procedure
