@@ -33,7 +33,9 @@ empty-of-requires : tie.Need-empty-of-requires
 empty-of-requires c κs = search needs
 
 returns-2 : tie.Need-returns-2
-returns-2 c = ?
+returns-2 c =
+    let here = c .before .before in
+    left _ _ _ _ (ne-eqb _ _ (λ e. here .if1 .left (here .before .kind-of .ensures ∙ e))) (ap (λ (y : ℕ). eqb y 1) (c .empty-of .ensures .0))
 
 pub passes-at-spec : {M : Type 1} → statement M
 passes-at-spec =
