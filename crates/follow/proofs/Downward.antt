@@ -35,11 +35,11 @@ told-rest : (x a h : ℕ) → a < 1024 → h < 1024 → toldIn x a h / 1048576 �
 unfolding toldIn
 told-rest x a h l m = omega arith
 
-start-rest : (x y : ℕ) → y / 1048576 ≡ x / 1048576 → startIn y ≡ startIn x
+pub start-rest : (x y : ℕ) → y / 1048576 ≡ x / 1048576 → startIn y ≡ startIn x
 unfolding startIn
 start-rest x y e = ap (λ (i : ℕ). i % 1024) e
 
-rank-rest : (x y : ℕ) → y / 1048576 ≡ x / 1048576 → rankIn y ≡ rankIn x
+pub rank-rest : (x y : ℕ) → y / 1048576 ≡ x / 1048576 → rankIn y ≡ rankIn x
 unfolding rankIn
 rank-rest x y e = let same : y / 1073741824 ≡ x / 1073741824 = omega arith in ap (λ (i : ℕ). i % 64) same
 
@@ -50,10 +50,10 @@ empty-rest x y e = let same : y / 68719476736 ≡ x / 68719476736 = omega arith 
 -- ---- what stays as it was
 
 -- only what is said from above changes, and only at nodes from lo on and before hi
-record Moves (lo hi : ℕ) (p d : List ℕ) : Type 0 where
-  same : (j : ℕ) → getD d j 0 / 1048576 ≡ getD p j 0 / 1048576
-  kept : (j : ℕ) → (j < lo) ⊎ (hi ≤ j) → getD d j 0 ≡ getD p j 0
-  long : length d ≡ length p
+pub record Moves (lo hi : ℕ) (p d : List ℕ) : Type 0 where
+  pub same : (j : ℕ) → getD d j 0 / 1048576 ≡ getD p j 0 / 1048576
+  pub kept : (j : ℕ) → (j < lo) ⊎ (hi ≤ j) → getD d j 0 ≡ getD p j 0
+  pub long : length d ≡ length p
 
 moves-none : (lo hi : ℕ) (p : List ℕ) → Moves lo hi p p
 moves-none lo hi p = record { same = λ j. refl; kept = λ j o. refl; long = refl }
@@ -67,7 +67,7 @@ moves-then la bh lc dh v w = record {
   long = w .long ∙ v .long;
 }
 
-moves-tell : (lo hi c a h : ℕ) (p : List ℕ) → lo ≤ c → c < hi → c < length p → a < 1024 → h < 1024 → Moves lo hi p (tell p c a h)
+pub moves-tell : (lo hi c a h : ℕ) (p : List ℕ) → lo ≤ c → c < hi → c < length p → a < 1024 → h < 1024 → Moves lo hi p (tell p c a h)
 moves-tell lo hi c a h p lc ch cl la lh = record {
   same = λ j. at j (ℕ-discrete j c);
   kept = λ j o. getD-set-other p c j _ 0 (λ e. ⊎-elim (λ l. omega arith) (λ l. omega arith) o);
@@ -80,7 +80,7 @@ moves-tell lo hi c a h p lc ch cl la lh = record {
         ∙ told-rest (getD p c 0) a h la lh ∙ ap (λ (i : ℕ). getD p i 0 / 1048576) (sym e)
     at j (no e) = ap (λ (i : ℕ). i / 1048576) (getD-set-other p c j _ 0 e)
 
-told-there : (c a h : ℕ) (p : List ℕ) → c < length p → a < 1024 → h < 1024 → Told (tell p c a h) c a h
+pub told-there : (c a h : ℕ) (p : List ℕ) → c < length p → a < 1024 → h < 1024 → Told (tell p c a h) c a h
 told-there c a h p cl la lh =
     let e = getD-set-same p c (toldIn (getD p c 0) a h) 0 cl in
     (ap aboveIn e ∙ told-above (getD p c 0) a h la lh, ap beginsIn e ∙ told-begins (getD p c 0) a h la lh)
@@ -116,29 +116,29 @@ own-kept {lo} {hi} {p} {d} {s} {e} m w = record {
 -- ---- the downward pass over a part
 
 -- the plan has its full length, and says of each part among the n nodes what it is from the inside
-record Ready (nodes : List ℕ) (n : ℕ) (p : List ℕ) : Type 0 where
-  own : (s : ℕ) (d : Expr) → Stands (held nodes) s d → s + size d ≤ n → Own p s d
-  long : length p ≡ 512
+pub record Ready (nodes : List ℕ) (n : ℕ) (p : List ℕ) : Type 0 where
+  pub own : (s : ℕ) (d : Expr) → Stands (held nodes) s d → s + size d ≤ n → Own p s d
+  pub long : length p ≡ 512
 
-ready-kept : {nodes : List ℕ} {n lo hi : ℕ} {p d : List ℕ} → Moves lo hi p d → Ready nodes n p → Ready nodes n d
+pub ready-kept : {nodes : List ℕ} {n lo hi : ℕ} {p d : List ℕ} → Moves lo hi p d → Ready nodes n p → Ready nodes n d
 ready-kept m w = record { own = λ s d st fit. own-kept m (w .own s d st fit); long = m .long ∙ w .long }
 
 -- the pass over the part leaves the plan `after`, in which the part's nodes are told, and goes on below the part
-record DownTo (nodes p : List ℕ) (s : ℕ) (e : Expr) (a h : ℕ) : Type 0 where
-  after : List ℕ
-  rest : down nodes p (s + size e) ≡ down nodes after s
-  planned : Planned after s e a h
-  moves : Moves s (s + size e) p after
+pub record DownTo (nodes p : List ℕ) (s : ℕ) (e : Expr) (a h : ℕ) : Type 0 where
+  pub after : List ℕ
+  pub rest : down nodes p (s + size e) ≡ down nodes after s
+  pub planned : Planned after s e a h
+  pub moves : Moves s (s + size e) p after
 
 small-right : (b : Bool) (h y : ℕ) → h < 1024 → y < 1024 → cond b h y < 1024
 small-right true h y l m = l
 small-right false h y l m = m
 
-bit-one : (b : Bool) → eqb (bit b) 1 ≡ b
+pub bit-one : (b : Bool) → eqb (bit b) 1 ≡ b
 bit-one true = refl
 bit-one false = refl
 
-root-from : (t : ℕ) (e : Expr) → t ≤ root t e
+pub root-from : (t : ℕ) (e : Expr) → t ≤ root t e
 root-from t empty = omega arith
 root-from t (event c) = omega arith
 root-from t (choice x y) = omega arith
@@ -186,8 +186,7 @@ module _ (nodes : List ℕ) (n : ℕ) (most : n ≤ 512) where
       let m : Moves s (s + (size l + size r + 1)) p (w .after) =
       moves-then (omega arith) (omega arith) (omega arith) (omega arith) m12
       (moves-then {lo = s} {hi = i} (omega arith) (omega arith) (omega arith) (omega arith) (v .moves) (w .moves)) in
-      let next : s + (size l + size r + 1) ≡ suc i = omega arith in
-      (
+      let next : s + (size l + size r + 1) ≡ suc i = omega arith in (
         w .after,
         ap (down nodes p) next ∙ ap (λ (d : List ℕ). down nodes d i) same ∙ v .rest ∙ w .rest,
         told-kept p (w .after) i a h
@@ -199,7 +198,7 @@ module _ (nodes : List ℕ) (n : ℕ) (most : n ≤ 512) where
       )
 
   -- the downward pass tells a part's nodes what stands above them
-  down-part : (s : ℕ) (e : Expr) (a h : ℕ) (p : List ℕ) → Stands (held nodes) s e → s + size e ≤ n → a < 1024 → h < 1024
+  pub down-part : (s : ℕ) (e : Expr) (a h : ℕ) (p : List ℕ) → Stands (held nodes) s e → s + size e ≤ n → a < 1024 → h < 1024
       → Ready nodes n p → Told p (root s e) a h → DownTo nodes p s e a h
   down-part s empty a h p st fit sa sh ready told =
       record { after = p; rest = down-next p p s (s + 1) (omega arith) (link-as p s _ st); planned = told; moves = moves-none s (s + 1) p }

@@ -4,4 +4,8 @@ mod Beginnings
 mod Counting
 mod Climbing
 mod Downward
+mod Upward
+mod Whole
+mod Links
+mod Stepping
 mod Nearby

@@ -103,6 +103,7 @@ cleared-more from i c d f w = record {
     one : (j : ℕ) → from ≤ j → j < i + 1 → Dec (i ≤ j) → getD (set d i 0) j 0 ≡ 0
     one j a b (yes h) = let same : i ≡ j = omega arith in subst (λ (k : ℕ). getD (set d i 0) k 0 ≡ 0) same (set-zero d i)
     one j a b (no h) = getD-set-other d i j 0 0 (λ e. omega arith) ∙ w .gone j a (omega arith)
+
     other : (j : ℕ) → (j < from) ⊎ (i + 1 ≤ j) → j ≡ i → ⊥
     other j (inl l) e = omega arith
     other j (inr l) e = omega arith

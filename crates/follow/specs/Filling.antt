@@ -15,9 +15,12 @@ use Rattle.follow.specs.Plan.{aboveAt, beginsAt, startAt, rankAt, emptyA
 abbrev pub Upon : List ℕ → ℕ → Type 0
 Upon nodes i = 2 ≤ kindOf (held nodes i) → leftOf (held nodes i) < i
 
--- the first node of the part of node i
+-- the first node of the part of node i, which is m
+abbrev pub startWith : Node → List ℕ → ℕ → ℕ
+startWith m plan i = cond (ltb (kindOf m) 2) i (startAt plan (leftOf m))
+
 abbrev pub startOf : List ℕ → List ℕ → ℕ → ℕ
-startOf nodes plan i = cond (ltb (kindOf (held nodes i)) 2) i (startAt plan (leftOf (held nodes i)))
+startOf nodes plan i = startWith (held nodes i) plan i
 
 -- 1 where the part of node i has the empty word, else 0, of a node with children
 abbrev pub emptyOver : Node → List ℕ → ℕ → ℕ
@@ -27,8 +30,11 @@ emptyOver m plan i =
     (cond (eqb (emptyAt plan (leftOf m)) 1) 1 (emptyAt plan (i - 1))))
 
 -- the same, of any node
+abbrev pub emptyWith : Node → List ℕ → ℕ → ℕ
+emptyWith m plan i = cond (ltb (kindOf m) 2) (1 - kindOf m) (emptyOver m plan i)
+
 abbrev pub emptyOf : List ℕ → List ℕ → ℕ → ℕ
-emptyOf nodes plan i = cond (ltb (kindOf (held nodes i)) 2) (1 - kindOf (held nodes i)) (emptyOver (held nodes i) plan i)
+emptyOf nodes plan i = emptyWith (held nodes i) plan i
 
 -- what the plan says of the nodes below i from their inside
 pub record UpTo (nodes plan : List ℕ) (i : ℕ) : Type 0 where

@@ -4,4 +4,5 @@ pub mod Plan
 pub mod Counts
 pub mod Climb
 pub mod Filling
+pub mod Step
 pub mod Near

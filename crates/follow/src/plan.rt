@@ -6,10 +6,10 @@ ghost use Prim.Native.Nat.{ℕ, _+_, _-_, _≤_, _<_};
 ghost use lib.ListN.{length};
 ghost use Rattle.meaning.specs.Expr.{Expr, size};
 ghost use Rattle.meaning.specs.Node.{Stands, isRepeat, repeatsBelow};
-ghost use Rattle.procedure.specs.Entry.{held, unpacked, leftOf, lowerOf};
+ghost use Rattle.procedure.specs.Entry.{held, unpacked, kindOf, leftOf, lowerOf};
 ghost use Rattle.follow.specs.Table.{startIn, rankIn, emptyIn};
-ghost use Rattle.follow.specs.Plan.{emptyAt, Plans};
-ghost use Rattle.follow.specs.Filling.{Upon, startOf, emptyOver, emptyOf, UpTo, tell, link, down};
+ghost use Rattle.follow.specs.Plan.{startAt, emptyAt, Plans};
+ghost use Rattle.follow.specs.Filling.{Upon, startWith, emptyOver, emptyWith, UpTo, tell, linkWith, down};
 use crate::table;
 use procedure::entry;
 
@@ -83,23 +83,34 @@ fn empties(node: u64, plan: &[u64; 512], i: usize) -> u64
     empties_one(plan, left, i - 1)
 }
 
-// What the plan says of node i from the inside of its part; k repeats stand below it.
-fn entry_at(nodes: &[u64; 512], plan: &[u64; 512], i: usize, k: usize) -> u64
+// What the plan says of node i, which has children, from the inside of its part; k repeats stand below it.
+fn entry_over(node: u64, plan: &[u64; 512], i: usize, k: usize) -> u64
+    requires { ⌜ i ≤ 512 ⌝ }
+    requires { ⌜ k < 64 ⌝ }
+    requires { ⌜ leftOf (unpacked node) < i ⌝ }
+    ensures { λ r. ⌜ startIn r ≡ startAt (now (plan .entry)) (leftOf (unpacked node)) ⌝ }
+    ensures { λ r. ⌜ rankIn r ≡ k ⌝ }
+    ensures { λ r. ⌜ emptyIn r ≡ emptyOver (unpacked node) (now (plan .entry)) i ⌝ }
+{
+    let left = entry::left_of(node);
+    let start = table::start_of(plan[left]);
+    table::entry_of(start, k, empties(node, plan, i))
+}
+
+// The same of any node.
+fn entry_at(node: u64, plan: &[u64; 512], i: usize, k: usize) -> u64
     requires { ⌜ i < 512 ⌝ }
     requires { ⌜ k < 64 ⌝ }
-    requires { ⌜ Upon (now nodes) i ⌝ }
-    ensures { λ r. ⌜ startIn r ≡ startOf (now (nodes .entry)) (now (plan .entry)) i ⌝ }
+    requires { ⌜ (2 ≤ kindOf (unpacked node) → leftOf (unpacked node) < i) ⌝ }
+    ensures { λ r. ⌜ startIn r ≡ startWith (unpacked node) (now (plan .entry)) i ⌝ }
     ensures { λ r. ⌜ rankIn r ≡ k ⌝ }
-    ensures { λ r. ⌜ emptyIn r ≡ emptyOf (now (nodes .entry)) (now (plan .entry)) i ⌝ }
+    ensures { λ r. ⌜ emptyIn r ≡ emptyWith (unpacked node) (now (plan .entry)) i ⌝ }
 {
-    let node = nodes[i];
     let kind = entry::kind_of(node);
     if kind < entry::CHOICE {
         return table::entry_of(i, k, (1 - kind) as u64);
     }
-    let left = entry::left_of(node);
-    let start = table::start_of(plan[left]);
-    table::entry_of(start, k, empties(node, plan, i))
+    entry_over(node, plan, i, k)
 }
 
 // Upward: each node from those below it.
@@ -113,7 +124,7 @@ fn fill_up(nodes: &[u64; 512], plan: &mut [u64; 512], n: usize)
     let mut i = 0;
     let mut k = 0;
     while i < n {
-        let made = entry_at(nodes, plan, i, k);
+        let made = entry_at(nodes[i], plan, i, k);
         plan[i] = made;
         k += is_repeat(nodes[i]);
         i += 1;
@@ -144,17 +155,32 @@ fn begins_right(left: u64, begins: usize, right: usize) -> usize
     right
 }
 
-// Node i tells its children.
-fn link_at(nodes: &[u64; 512], plan: &mut [u64; 512], i: usize)
-    requires { ⌜ i < 512 ⌝ }
-    requires { ⌜ Upon (now nodes) i ⌝ }
-    ensures { λ _. ⌜ now (plan .exit) ≡ link (now (nodes .entry)) (now (plan .entry)) i ⌝ }
+// The plan says of two nodes what stands above them.
+fn tell_pair(
+    plan: &mut [u64; 512],
+    left: usize,
+    right: usize,
+    al: usize,
+    hl: usize,
+    ar: usize,
+    hr: usize,
+)
+    requires { ⌜ left < 512 ⌝ }
+    requires { ⌜ right < 512 ⌝ }
+    requires { ⌜ (al < 1024) × (hl < 1024) × (ar < 1024) × (hr < 1024) ⌝ }
+    ensures { λ _. ⌜ now (plan .exit) ≡ tell (tell (now (plan .entry)) left al hl) right ar hr ⌝ }
 {
-    let node = nodes[i];
+    tell_at(plan, left, al, hl);
+    tell_at(plan, right, ar, hr);
+}
+
+// Node i, which has children, tells them.
+fn link_over(node: u64, plan: &mut [u64; 512], i: usize)
+    requires { ⌜ i < 512 ⌝ }
+    requires { ⌜ leftOf (unpacked node) < i ⌝ }
+    ensures { λ _. ⌜ now (plan .exit) ≡ linkWith (unpacked node) (now (plan .entry)) i ⌝ }
+{
     let kind = entry::kind_of(node);
-    if kind < entry::CHOICE {
-        return;
-    }
     let left = entry::left_of(node);
     let above = table::above_of(plan[i]);
     let begins = table::begins_of(plan[i]);
@@ -164,14 +190,24 @@ fn link_at(nodes: &[u64; 512], plan: &mut [u64; 512], i: usize)
     }
     if kind == entry::SEQUENCE {
         let right = begins_right(plan[left], begins, i - 1);
-        tell_at(plan, left, i, begins);
-        tell_at(plan, i - 1, above, right);
+        tell_pair(plan, left, i - 1, i, begins, above, right);
         return;
     }
     if kind == entry::CHOICE {
-        tell_at(plan, left, above, begins);
-        tell_at(plan, i - 1, above, begins);
+        tell_pair(plan, left, i - 1, above, begins, above, begins);
     }
+}
+
+// Node i tells its children, if it has any.
+fn link_at(node: u64, plan: &mut [u64; 512], i: usize)
+    requires { ⌜ i < 512 ⌝ }
+    requires { ⌜ (2 ≤ kindOf (unpacked node) → leftOf (unpacked node) < i) ⌝ }
+    ensures { λ _. ⌜ now (plan .exit) ≡ linkWith (unpacked node) (now (plan .entry)) i ⌝ }
+{
+    if entry::kind_of(node) < entry::CHOICE {
+        return;
+    }
+    link_over(node, plan, i);
 }
 
 // Downward: each node tells its children.
@@ -183,7 +219,7 @@ fn fill_down(nodes: &[u64; 512], plan: &mut [u64; 512], n: usize)
     let mut i = n;
     while 0 < i {
         i -= 1;
-        link_at(nodes, plan, i);
+        link_at(nodes[i], plan, i);
     }
 }
 

@@ -50,7 +50,7 @@ look-repeat-requires : tie.Need-look-repeat-requires
 look-repeat-requires c κs = search needs
 
 returns-2 : tie.Need-returns-2
-returns-2 c = 
+returns-2 c =
     let start = c .before .before .before .before .before .before .before in
     let a = start .args in
     let rank = c .before .before .rank-of .ensures .0 in

@@ -1,21 +1,18 @@
+use borrow.Author.Tests.{eq-eqb, ne-eqb}
+use mathlib.Core.Path.{refl, sym, _∙_}
+use Rattle.follow.proofs.Tests.{taken-as, left}
 use borrow.Author.Needs.{needs}
 use Rattle.follow.proofs.plan.begins_right.Statement.{statement}
 use Rattle.follow.proofs.plan.begins_right.Tie as tie
-use Rattle.follow.proofs.plan.begins_right.Reads as reads
-use Rattle.follow.proofs.plan.begins_right.Lts as lts
-use Rattle.follow.proofs.table.empty_of.Reads as empty-of-reads
 
--- src/plan.rt:141:8
 empty-of-requires : tie.Need-empty-of-requires
 empty-of-requires c κs = search needs
 
--- src/plan.rt:142:9
 returns : tie.Need-returns
-returns c = ?
+returns c = (taken-as _ _ _ _ (eq-eqb _ _ (sym (c .before .empty-of .ensures .0) ∙ c .if1 .taken)) refl, search needs)
 
--- src/plan.rt:135:1
 returns-2 : tie.Need-returns-2
-returns-2 c = ?
+returns-2 c = (left _ _ _ _ (ne-eqb _ _ (λ e. c .if1 .left (c .before .empty-of .ensures .0 ∙ e))) refl, search needs)
 
 pub begins-right-spec : {M : Type 1} → statement M
 begins-right-spec = tie.close (tie.spec empty-of-requires returns returns-2)

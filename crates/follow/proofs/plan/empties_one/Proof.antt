@@ -1,41 +1,33 @@
+use borrow.Author.Tests.{eq-eqb, ne-eqb}
+use mathlib.Core.Path.{refl, sym, _∙_}
+use Rattle.follow.proofs.Tests.{taken-as, left}
 use borrow.Author.Needs.{needs}
 use Rattle.follow.proofs.plan.empties_one.Statement.{statement}
 use Rattle.follow.proofs.plan.empties_one.Tie as tie
-use Rattle.follow.proofs.plan.empties_one.Reads as reads
-use Rattle.follow.proofs.plan.empties_one.Lts as lts
-use Rattle.follow.proofs.table.empty_of.Reads as empty-of-reads
 
--- src/plan.rt:62:24
 mul-empty-of : tie.Need-mul-empty-of
 mul-empty-of c = search needs
 
--- src/plan.rt:62:24
 element-copy-out-empty-of : tie.Need-element-copy-out-empty-of
 element-copy-out-empty-of c = search needs
 
--- src/plan.rt:62:8
 empty-of-requires : tie.Need-empty-of-requires
 empty-of-requires c κs = search needs
 
--- src/plan.rt:63:9
 returns : tie.Need-returns
-returns c = ?
+returns c = (taken-as _ _ _ _ (eq-eqb _ _ (sym (c .before .empty-of .ensures .0) ∙ c .if1 .taken)) refl, search needs)
 
--- src/plan.rt:65:21
 mul-empty-of-2 : tie.Need-mul-empty-of-2
 mul-empty-of-2 c = search needs
 
--- src/plan.rt:65:21
 element-copy-out-empty-of-2 : tie.Need-element-copy-out-empty-of-2
 element-copy-out-empty-of-2 c = search needs
 
--- src/plan.rt:65:5
 empty-of-requires-2 : tie.Need-empty-of-requires-2
 empty-of-requires-2 c κs = search needs
 
--- src/plan.rt:56:1
 returns-2 : tie.Need-returns-2
-returns-2 c = ?
+returns-2 c = (left _ _ _ _ (ne-eqb _ _ (λ e. c .before .before .if1 .left (c .before .before .before .empty-of .ensures .0 ∙ e))) (c .empty-of2 .ensures .0), c .empty-of2 .ensures .1)
 
 pub empties-one-spec : {M : Type 1} → statement M
 empties-one-spec =

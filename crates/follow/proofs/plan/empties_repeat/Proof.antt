@@ -1,34 +1,27 @@
+use borrow.Author.Tests.{eq-eqb, ne-eqb}
+use mathlib.Core.Path.{refl, sym, _∙_}
+use Rattle.follow.proofs.Tests.{taken-as, left}
 use borrow.Author.Needs.{needs}
 use Rattle.follow.proofs.plan.empties_repeat.Statement.{statement}
 use Rattle.follow.proofs.plan.empties_repeat.Tie as tie
-use Rattle.follow.proofs.plan.empties_repeat.Reads as reads
-use Rattle.follow.proofs.plan.empties_repeat.Lts as lts
-use Rattle.follow.proofs.table.empty_of.Reads as empty-of-reads
-use Rattle.procedure.proofs.entry.lower_of.Reads as lower-of-reads
 
--- src/plan.rt:36:8
 lower-of-requires : tie.Need-lower-of-requires
 lower-of-requires c κs = search needs
 
--- src/plan.rt:37:9
 returns : tie.Need-returns
-returns c = ?
+returns c = (taken-as _ _ _ _ (eq-eqb _ _ (sym (c .before .lower-of .ensures) ∙ c .if1 .taken)) refl, search needs)
 
--- src/plan.rt:39:21
 mul-empty-of : tie.Need-mul-empty-of
 mul-empty-of c = search needs
 
--- src/plan.rt:39:21
 element-copy-out-empty-of : tie.Need-element-copy-out-empty-of
 element-copy-out-empty-of c = search needs
 
--- src/plan.rt:39:5
 empty-of-requires : tie.Need-empty-of-requires
 empty-of-requires c κs = search needs
 
--- src/plan.rt:31:1
 returns-2 : tie.Need-returns-2
-returns-2 c = ?
+returns-2 c = (left _ _ _ _ (ne-eqb _ _ (λ e. c .before .before .if1 .left (c .before .before .before .lower-of .ensures ∙ e))) (c .empty-of .ensures .0), c .empty-of .ensures .1)
 
 pub empties-repeat-spec : {M : Type 1} → statement M
 empties-repeat-spec =

@@ -1,85 +1,56 @@
+use Rattle.procedure.specs.Entry.{unpacked}
+use mathlib.Core.Path.{ap, subst, _∙_}
+use native.Mathlib.Omega.{arith}
+use Prim.Native.Nat.{ℕ, _-_, _≤_, _<_}
+use Rattle.follow.proofs.Links.{start-leaf, start-over, empty-leaf, empty-over}
 use borrow.Author.Needs.{needs}
 use Rattle.follow.proofs.plan.entry_at.Statement.{statement}
 use Rattle.follow.proofs.plan.entry_at.Tie as tie
-use Rattle.follow.proofs.plan.entry_at.Reads as reads
-use Rattle.follow.proofs.plan.entry_at.Lts as lts
-use Rattle.follow.proofs.plan.empties.Reads as empties-reads
-use Rattle.follow.proofs.table.entry_of.Reads as entry-of-reads
-use Rattle.follow.proofs.table.start_of.Reads as start-of-reads
-use Rattle.procedure.proofs.entry.kind_of.Reads as kind-of-reads
-use Rattle.procedure.proofs.entry.left_of.Reads as left-of-reads
 
--- src/plan.rt:95:16
-mul-node : tie.Need-mul-node
-mul-node c = search needs
-
--- src/plan.rt:95:16
-element-copy-out-node : tie.Need-element-copy-out-node
-element-copy-out-node c = search needs
-
--- src/plan.rt:96:9
 kind-of-requires : tie.Need-kind-of-requires
 kind-of-requires c κs = search needs
 
--- src/plan.rt:98:39
 sub-entry-of : tie.Need-sub-entry-of
 sub-entry-of c = search needs
 
--- src/plan.rt:98:38
 cast-entry-of : tie.Need-cast-entry-of
 cast-entry-of c = search needs
 
--- src/plan.rt:98:9
 entry-of-requires : tie.Need-entry-of-requires
 entry-of-requires c κs = search needs
 
--- src/plan.rt:98:9
 returns : tie.Need-returns
-returns c = ?
+returns c =
+    let kind = c .before .before .kind-of .ensures in
+    let a = c .before .before .before .args in
+    let small = subst (λ (k : ℕ). k < 2) kind (c .before .if1 .taken) in (
+      start-leaf (unpacked (a .node)) (a .plan .now) (a .i) _ small (c .entry-of .ensures .0),
+      (c .entry-of .ensures .1 .0, empty-leaf (unpacked (a .node)) (a .plan .now) (a .i) _ small (c .entry-of .ensures .1 .1 ∙ ap (λ (k : ℕ). 1 - k) kind)),
+    )
 
--- src/plan.rt:100:9
-left-of-requires : tie.Need-left-of-requires
-left-of-requires c κs = search needs
+entry-over-requires : tie.Need-entry-over-requires
+entry-over-requires c κs =
+    let kind = c .before .kind-of .ensures in
+    let start = c .before .before in
+    (omega arith, (omega arith, start .pre .1 .1 (subst (λ (k : ℕ). 2 ≤ k) kind (c .if1 .left))))
 
--- src/plan.rt:101:33
-mul-start-of : tie.Need-mul-start-of
-mul-start-of c = ?
-
--- src/plan.rt:101:33
-element-copy-out-start-of : tie.Need-element-copy-out-start-of
-element-copy-out-start-of c = ?
-
--- src/plan.rt:101:9
-start-of-requires : tie.Need-start-of-requires
-start-of-requires c κs = search needs
-
--- src/plan.rt:102:31
-empties-requires : tie.Need-empties-requires
-empties-requires c κs = ?
-
--- src/plan.rt:102:5
-entry-of-requires-2 : tie.Need-entry-of-requires-2
-entry-of-requires-2 c κs = search needs
-
--- src/plan.rt:87:1
 returns-2 : tie.Need-returns-2
-returns-2 c = ?
+returns-2 c =
+    let kind = c .before .before .kind-of .ensures in
+    let a = c .before .before .before .args in
+    let large = subst (λ (k : ℕ). 2 ≤ k) kind (c .before .if1 .left) in (
+      start-over (unpacked (a .node)) (a .plan .now) (a .i) _ large (c .entry-over .ensures .0),
+      (c .entry-over .ensures .1 .0, empty-over (unpacked (a .node)) (a .plan .now) (a .i) _ large (c .entry-over .ensures .1 .1)),
+    )
 
 pub entry-at-spec : {M : Type 1} → statement M
 entry-at-spec =
     tie.close
     (tie.spec
-    mul-node
-    element-copy-out-node
     kind-of-requires
     sub-entry-of
     cast-entry-of
     entry-of-requires
     returns
-    left-of-requires
-    mul-start-of
-    element-copy-out-start-of
-    start-of-requires
-    empties-requires
-    entry-of-requires-2
+    entry-over-requires
     returns-2)

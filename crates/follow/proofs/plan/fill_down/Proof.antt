@@ -1,40 +1,57 @@
+use mathlib.Core.Path.{_≡_, refl}
+use native.Mathlib.Omega.{arith}
+use borrow.Author.Needs.{needs}
+use Prim.Native.Nat.{_≤_, _-_}
+use Rattle.follow.specs.Filling.{down}
+use Rattle.follow.proofs.Links.{down-one, down-done}
 use Rattle.follow.proofs.plan.fill_down.Statement.{statement}
 use Rattle.follow.proofs.plan.fill_down.Tie as tie
-use Rattle.follow.proofs.plan.fill_down.Reads as reads
-use Rattle.follow.proofs.plan.fill_down.Lts as lts
-use Rattle.follow.proofs.plan.link_at.Reads as link-at-reads
 
 abbrev Inv-loop : tie.InvT-loop
-Inv-loop nodes plan₀ n i₀ plan i = ?
+Inv-loop nodes plan₀ n i₀ plan i = (i ≤ n) × (down nodes plan i ≡ down nodes plan₀ n)
 
 abbrev μ-loop : tie.MeasureT-loop
-μ-loop nodes plan₀ n i₀ plan i = ?
+μ-loop nodes plan₀ n i₀ plan i = i
 
--- src/plan.rt:184:5
 loop-holds : tie.Need-loop-holds Inv-loop μ-loop
-loop-holds c = ?
+loop-holds c = (search needs, refl)
 
--- src/plan.rt:185:9
 sub-i : tie.Need-sub-i Inv-loop μ-loop
-sub-i c = ?
+sub-i c = search needs
 
--- src/plan.rt:186:9
+mul-link-at : tie.Need-mul-link-at Inv-loop μ-loop
+mul-link-at c = search needs
+
+element-copy-out-link-at : tie.Need-element-copy-out-link-at Inv-loop μ-loop
+element-copy-out-link-at c = search needs
+
 link-at-requires : tie.Need-link-at-requires Inv-loop μ-loop
-link-at-requires c κs = ?
+link-at-requires c κs =
+    let at = c .before .before .before in
+    (omega arith, at .before .pre .1 (at .loop .i - 1) (omega arith))
 
--- src/plan.rt:184:5
 loop-less : tie.Need-loop-less Inv-loop μ-loop
-loop-less c = ?
+loop-less c = search needs
 
--- src/plan.rt:184:5
 loop-again : tie.Need-loop-again Inv-loop μ-loop
-loop-again c = ?
+loop-again c =
+    let at = c .before .before .before .before in
+    (search needs, down-one _ (at .loop .plan) _ _ (at .loop .i) (at .loop .i - 1) (omega arith) (c .link-at .ensures) (at .loop .inv .1))
 
--- src/plan.rt:178:1
 returns : tie.Need-returns Inv-loop μ-loop
-returns c = ?
+returns c = down-done _ (c .before .loop .plan) _ (c .before .loop .i) (omega arith) (c .before .loop .inv .1)
 
 pub fill-down-spec : {M : Type 1} → statement M
 fill-down-spec =
     tie.close
-    (tie.spec Inv-loop μ-loop loop-holds sub-i link-at-requires loop-less loop-again returns)
+    (tie.spec
+    Inv-loop
+    μ-loop
+    loop-holds
+    sub-i
+    mul-link-at
+    element-copy-out-link-at
+    link-at-requires
+    loop-less
+    loop-again
+    returns)

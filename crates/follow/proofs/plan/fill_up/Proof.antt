@@ -1,63 +1,91 @@
+use mathlib.Core.Path.{_≡_, refl, sym, ap, subst, _∙_}
+use native.Mathlib.Omega.{arith}
+use borrow.Author.Needs.{needs}
+use Prim.Native.Nat.{ℕ, suc, _+_, _≤_, _-_}
+use Rattle.meaning.specs.Node.{isRepeat, repeatsBelow}
+use Rattle.procedure.specs.Entry.{held}
+use Rattle.follow.specs.Filling.{UpTo}
+use Rattle.follow.proofs.Counting.{below-rises}
+use Rattle.follow.proofs.Upward.{up-more}
+use Rattle.follow.proofs.Links.{up-none}
 use Rattle.follow.proofs.plan.fill_up.Statement.{statement}
 use Rattle.follow.proofs.plan.fill_up.Tie as tie
-use Rattle.follow.proofs.plan.fill_up.Reads as reads
-use Rattle.follow.proofs.plan.fill_up.Lts as lts
-use Rattle.follow.proofs.plan.entry_at.Reads as entry-at-reads
-use Rattle.follow.proofs.plan.is_repeat.Reads as is-repeat-reads
 
 abbrev Inv-loop : tie.InvT-loop
-Inv-loop nodes plan₀ n i₀ k₀ plan i k = ?
+Inv-loop nodes plan₀ n i₀ k₀ plan i k = (i ≤ n) × (k ≡ repeatsBelow (held nodes) i) × UpTo nodes plan i
 
 abbrev μ-loop : tie.MeasureT-loop
-μ-loop nodes plan₀ n i₀ k₀ plan i k = ?
+μ-loop nodes plan₀ n i₀ k₀ plan i k = n - i
 
--- src/plan.rt:115:5
 loop-holds : tie.Need-loop-holds Inv-loop μ-loop
-loop-holds c = ?
+loop-holds c = (search needs, refl, up-none _ _ (c .pre .1 .0))
 
--- src/plan.rt:116:13
+mul-entry-at : tie.Need-mul-entry-at Inv-loop μ-loop
+mul-entry-at c = search needs
+
+element-copy-out-entry-at : tie.Need-element-copy-out-entry-at Inv-loop μ-loop
+element-copy-out-entry-at c = search needs
+
 entry-at-requires : tie.Need-entry-at-requires Inv-loop μ-loop
-entry-at-requires c κs = ?
+entry-at-requires c κs =
+    let at = c .before .before .before in
+    let start = at .before in
+    let few = below-rises (held (start .args .nodes .now)) (at .loop .i) (start .args .n) (omega arith) in
+    let k = at .loop .inv .1 in
+    (omega arith, (omega (arith, start .pre .1 .1 .0), start .pre .1 .1 .1 (at .loop .i) (omega arith)))
 
--- src/plan.rt:117:9
 mul-plan : tie.Need-mul-plan Inv-loop μ-loop
-mul-plan c = ?
+mul-plan c = search needs
 
--- src/plan.rt:117:9
 element-write-plan : tie.Need-element-write-plan Inv-loop μ-loop
-element-write-plan c = ?
+element-write-plan c = search needs
 
--- src/plan.rt:118:24
 mul-is-repeat : tie.Need-mul-is-repeat Inv-loop μ-loop
-mul-is-repeat c = ?
+mul-is-repeat c = search needs
 
--- src/plan.rt:118:24
 element-copy-out-is-repeat : tie.Need-element-copy-out-is-repeat Inv-loop μ-loop
-element-copy-out-is-repeat c = ?
+element-copy-out-is-repeat c = search needs
 
--- src/plan.rt:118:14
 is-repeat-requires : tie.Need-is-repeat-requires Inv-loop μ-loop
-is-repeat-requires c κs = ?
+is-repeat-requires c κs = search needs
 
--- src/plan.rt:118:9
 add-k : tie.Need-add-k Inv-loop μ-loop
-add-k c = ?
+add-k c =
+    let at = c .before .before .before .before .before .before in
+    let start = at .before in
+    let few = below-rises (held (start .args .nodes .now)) (at .loop .i) (start .args .n) (omega arith) in
+    let k = at .loop .inv .1 in
+    omega (arith, start .pre .1 .1 .0, c .is-repeat .ensures .1)
 
--- src/plan.rt:119:9
 add-i : tie.Need-add-i Inv-loop μ-loop
-add-i c = ?
+add-i c = search needs
 
--- src/plan.rt:115:5
 loop-less : tie.Need-loop-less Inv-loop μ-loop
-loop-less c = ?
+loop-less c = search needs
 
--- src/plan.rt:115:5
 loop-again : tie.Need-loop-again Inv-loop μ-loop
-loop-again c = ?
+loop-again c =
+    let at = c .before .before .before .before .before .before in
+    let start = at .before in
+    let g = held (start .args .nodes .now) in
+    let next : at .loop .i + 1 ≡ suc (at .loop .i) = omega arith in
+    let made = c .before .before .entry-at .ensures in (
+      search needs,
+      ap (λ (m : ℕ). at .loop .k + m) (c .is-repeat .ensures .0) ∙ ap (λ (m : ℕ). m + isRepeat (g (at .loop .i))) (at .loop .inv .1) ∙ sym (ap (repeatsBelow g) next),
+      up-more (start .args .nodes .now) (at .loop .plan) (at .loop .i) (at .loop .inv .2) (at .loop .k) _ (omega arith)
+          (start .pre .1 .1 .1 (at .loop .i) (omega arith))
+          (at .loop .inv .1)
+          (made .0)
+          (made .1 .0)
+          (made .1 .1),
+    )
 
--- src/plan.rt:106:1
 returns : tie.Need-returns Inv-loop μ-loop
-returns c = ?
+returns c =
+    let at = c .before in
+    let start = at .before in
+    let last : at .loop .i ≡ start .args .n = omega arith in
+    subst (λ (i : ℕ). UpTo (start .args .nodes .now) (at .loop .plan) i) last (at .loop .inv .2)
 
 pub fill-up-spec : {M : Type 1} → statement M
 fill-up-spec =
@@ -66,6 +94,8 @@ fill-up-spec =
     Inv-loop
     μ-loop
     loop-holds
+    mul-entry-at
+    element-copy-out-entry-at
     entry-at-requires
     mul-plan
     element-write-plan

@@ -1,33 +1,26 @@
+use mathlib.Core.Path.{ap}
+use lib.ListN.{set}
 use borrow.Author.Needs.{needs}
 use Rattle.follow.proofs.plan.tell_at.Statement.{statement}
 use Rattle.follow.proofs.plan.tell_at.Tie as tie
-use Rattle.follow.proofs.plan.tell_at.Reads as reads
-use Rattle.follow.proofs.plan.tell_at.Lts as lts
-use Rattle.follow.proofs.table.told.Reads as told-reads
 
--- src/plan.rt:130:28
 mul-told : tie.Need-mul-told
 mul-told c = search needs
 
--- src/plan.rt:130:28
 element-copy-out-told : tie.Need-element-copy-out-told
 element-copy-out-told c = search needs
 
--- src/plan.rt:130:9
 told-requires : tie.Need-told-requires
 told-requires c κs = search needs
 
--- src/plan.rt:131:5
 mul-plan : tie.Need-mul-plan
 mul-plan c = search needs
 
--- src/plan.rt:131:5
 element-write-plan : tie.Need-element-write-plan
 element-write-plan c = search needs
 
--- src/plan.rt:124:1
 returns : tie.Need-returns
-returns c = ?
+returns c = let a = c .before .before .args in ap (set (a .plan .now) (a .c)) (c .told .ensures)
 
 pub tell-at-spec : {M : Type 1} → statement M
 tell-at-spec =

@@ -36,7 +36,7 @@ clear-requires : tie.Need-clear-requires
 clear-requires c κs = search needs
 
 returns : tie.Need-returns
-returns c = 
+returns c =
     let start = c .before .before .before .before .before .before in
     let a = start .before .before .args in
     cleared-as (c .before .before .before .rank-of .ensures .0 ∙ ap (rankAt (a .plan .now)) (start .start-of .ensures .0)) (c .before .rank-of2 .ensures .0) (c .clear .ensures)

@@ -25,12 +25,12 @@ above-of-requires : tie.Need-above-of-requires Inv-loop μ-loop
 above-of-requires c κs = search needs
 
 loop-holds : tie.Need-loop-holds Inv-loop μ-loop
-loop-holds c = 
+loop-holds c =
     let a = c .before .before .args in
     λ z. subst (λ (i : ℕ). Sets (a .nodes .now) (a .plan .now) (a .x) i (a .counts .now) z) (c .above-of .ensures .0)
 
 mark-at-requires : tie.Need-mark-at-requires Inv-loop μ-loop
-mark-at-requires c κs = 
+mark-at-requires c κs =
     let at = c .before .before in
     let start = at .before .before .before in
     (omega arith, start .pre .1 .1 (at .loop .y) (c .before .loop-test .taken) .counted)
@@ -45,7 +45,7 @@ above-of-requires-2 : tie.Need-above-of-requires-2 Inv-loop μ-loop
 above-of-requires-2 c κs = search needs
 
 loop-less : tie.Need-loop-less Inv-loop μ-loop
-loop-less c = 
+loop-less c =
     let in-loop = c .before .before .before .before in
     let at = in-loop .before in
     let start = at .before .before .before in

@@ -28,13 +28,13 @@ add-result : tie.Need-add-result
 add-result c = search needs
 
 returns-2 : tie.Need-returns-2
-returns-2 c = 
+returns-2 c =
     let upper = c .before .before .upper-of .ensures in
     let a = c .before .before .before .args in
     one-more-below (a .empties) _ _ (a .c) (λ e. c .before .if1 .left (upper ∙ e)) (subst (λ (u : ℕ). a .c < u) upper (c .if2 .taken))
 
 returns-3 : tie.Need-returns-3
-returns-3 c = 
+returns-3 c =
     let upper = c .before .before .upper-of .ensures in
     let a = c .before .before .before .args in
     one-more-full (a .empties) _ _ (a .c) (λ e. c .before .if1 .left (upper ∙ e)) (subst (λ (u : ℕ). u ≤ a .c) upper (c .if2 .left))

@@ -42,7 +42,7 @@ mul-one-more : tie.Need-mul-one-more
 mul-one-more c = search needs
 
 element-copy-out-one-more : tie.Need-element-copy-out-one-more
-element-copy-out-one-more c = 
+element-copy-out-one-more c =
     let rank = c .before .before in
     let start = rank .before .before .before .before .before in
     omega (arith, rank .rank-of .ensures .0, start .pre .1 .1 (sym (rank .before .before .before .kind-of .ensures) ∙ rank .before .before .if1 .left))
@@ -54,13 +54,13 @@ mul-counts : tie.Need-mul-counts
 mul-counts c = search needs
 
 element-write-counts : tie.Need-element-write-counts
-element-write-counts c = 
+element-write-counts c =
     let rank = c .before .before .before .before in
     let start = rank .before .before .before .before .before in
     omega (arith, rank .rank-of .ensures .0, start .pre .1 .1 (sym (rank .before .before .before .kind-of .ensures) ∙ rank .before .before .if1 .left))
 
 returns-2 : tie.Need-returns-2
-returns-2 c = 
+returns-2 c =
     let rank = c .before .before .before .before in
     let a = rank .before .before .before .before .before .args in
     raised-there (a .nodes .now) (a .plan .now) (a .counts .now) (a .x) _ _ _
