@@ -9,3 +9,5 @@ mod Whole
 mod Links
 mod Stepping
 mod Nearby
+mod EventNodes
+mod Lighting

@@ -16,9 +16,10 @@ use Rattle.meaning.proofs.Parts.{root-size}
 use Rattle.meaning.proofs.Place.{Place, nodeOf}
 use Rattle.meaning.proofs.Ways.{Entry, enters, apart, entry, Way, turns, ends, stuck, mapWay, turnOr, climb, Turned}
 use Rattle.procedure.specs.Entry.{held, kindOf}
-use Rattle.follow.specs.Plan.{aboveAt, emptyAt, bit, top, Own, Planned, Plans, startsOf}
+use Rattle.follow.specs.Plan.{aboveAt, emptyAt, top, Own, Planned, Plans, startsOf}
 use Rattle.follow.specs.Near.{mayTurn, turnsAt, passesAt, TellsNear}
 use Rattle.follow.proofs.Beginnings.{Starts, does, does-not, Target, at, starts-by-test}
+use Rattle.follow.proofs.Downward.{bit-one}
 
 -- the way up from node x, that node included, turns towards event node q or does not
 pub data Nears (nodes plan : List ℕ) (n q : ℕ) : ℕ → Bool → Type 0 where
@@ -47,10 +48,6 @@ opens-behind false closed = closed
 written-many : (none : Bool) (u : ℕ) → (none ≡ true → u ≡ 65535) → leb 2 u ≡ many (cond none endless (upto u))
 written-many true u h = ap (leb 2) (h refl)
 written-many false u h = refl
-
-bit-one : (b : Bool) → eqb (bit b) 1 ≡ b
-bit-one true = refl
-bit-one false = refl
 
 module _ (nodes plan : List ℕ) (n q : ℕ) where
   -- ---- one step up
@@ -180,10 +177,13 @@ module _ (nodes plan : List ℕ) (n q : ℕ) where
   onward-whole stuck r few h = (λ w. absurd (false≢true (sym h ∙ w)), λ w. absurd w)
 
 -- the way up from event node p tells whether q is near
-pub nears-near : (nodes plan : List ℕ) (n p q : ℕ) (r : Bool) → kindOf (held nodes q) ≡ 1 → Nears nodes plan n q (aboveAt plan p) r → TellsNear nodes plan n p q r
-unfolding TellsNear
-nears-near nodes plan n p q r k w = λ e t pl same.
-    let whole = root-size 0 e in
-    let from = subst (λ (x : ℕ). Nears nodes plan n q (aboveAt plan x) r) (sym same) w in
-    onward-whole nodes plan n q (near 0 e t q) r (pl .few)
-    (nears nodes plan n q (pl .own) 0 e top (root 0 e) t r (at k) (pl .stands) (pl .planned) (omega arith) (omega (arith, pl .sized)) from)
+pub nears-near : {nodes plan : List ℕ} {n q : ℕ} (p : ℕ) {r : Bool} → kindOf (held nodes q) ≡ 1 → Nears nodes plan n q (aboveAt plan p) r
+    → TellsNear nodes plan n p q r
+nears-near {nodes} {plan} {n} {q} p {r} k w = record {
+  tells =
+      λ e t pl same.
+          let whole = root-size 0 e in
+          let from = subst (λ (x : ℕ). Nears nodes plan n q (aboveAt plan x) r) (sym same) w in
+          onward-whole nodes plan n q (near 0 e t q) r (pl .few)
+          (nears nodes plan n q (pl .own) 0 e top (root 0 e) t r (at k) (pl .stands) (pl .planned) (omega arith) (omega (arith, pl .sized)) from);
+}

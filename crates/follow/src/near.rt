@@ -1,8 +1,9 @@
 // Which event nodes can directly follow one another in the loosened procedure: the way up from an event node, without counters.
 ghost use mathlib.Core.Path.{_≡_};
 ghost use Prim.Native.Nat.{_≤_, _<_};
+ghost use Rattle.meaning.specs.Expr.{Expr};
 ghost use Rattle.procedure.specs.Entry.{held, kindOf, unpacked};
-ghost use Rattle.follow.specs.Plan.{Rises};
+ghost use Rattle.follow.specs.Plan.{Plans};
 ghost use Rattle.follow.specs.Near.{mayTurn, turnsAt, passesAt, TellsNear};
 use crate::climb;
 use crate::table;
@@ -47,10 +48,9 @@ fn passes_at(nodes: &[u64; 512], plan: &[u64; 512], x: usize) -> bool
 
 // Whether event node q can directly follow event node p in some reading of the loosened procedure.
 pub fn near(nodes: &[u64; 512], plan: &[u64; 512], n: usize, p: usize, q: usize) -> bool
-    requires { ⌜ n ≤ 512 ⌝ }
     requires { ⌜ p < n ⌝ }
     requires { ⌜ kindOf (held (now nodes) q) ≡ 1 ⌝ }
-    requires { ⌜ Rises (now nodes) (now plan) n ⌝ }
+    requires { ⌜ ((e : Expr) × Plans (now nodes) (now plan) n e) ⌝ }
     ensures { λ r. ⌜ TellsNear (now (nodes .entry)) (now (plan .entry)) n p q r ⌝ }
 {
     let mut x = table::above_of(plan[p]);

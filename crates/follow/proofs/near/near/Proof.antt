@@ -8,6 +8,7 @@ use borrow.Author.Needs.{needs}
 use borrow.Author.Tests.{not-true, not-false}
 use Rattle.follow.specs.Plan.{aboveAt}
 use Rattle.follow.proofs.Nearby.{Nears, over, here, shut, on, nears-near}
+use Rattle.follow.proofs.Whole.{rises}
 use Rattle.follow.proofs.near.near.Statement.{statement}
 use Rattle.follow.proofs.near.near.Tie as tie
 
@@ -30,7 +31,7 @@ loop-holds : tie.Need-loop-holds Inv-loop μ-loop
 loop-holds c =
     let start = c .before .before in
     let a = start .args in
-    let up = start .pre .1 .1 .1 (a .p) (start .pre .1 .0) in
+    let up = rises (start .pre .1 .1 .1) (a .p) (start .pre .0) in
     (omega (arith, c .above-of .ensures .0), λ r. subst (λ (y : ℕ). Nears (a .nodes .now) (a .plan .now) (a .n) (a .q) y r) (c .above-of .ensures .0))
 
 turns-at-requires : tie.Need-turns-at-requires Inv-loop μ-loop
@@ -41,7 +42,7 @@ returns c =
     let there = c .before .before in
     let start = there .before .before .before .before in
     let a = start .args in
-    nears-near (a .nodes .now) (a .plan .now) (a .n) (a .p) (a .q) _ (start .pre .1 .1 .0)
+    nears-near (a .p) (start .pre .1 .0)
     (there .before .loop .inv .1 _ (here (there .loop-test .taken) (sym (c .before .turns-at .ensures) ∙ c .if1 .taken)))
 
 passes-at-requires : tie.Need-passes-at-requires Inv-loop μ-loop
@@ -53,7 +54,7 @@ returns-2 c =
     let in-loop = there .before .before in
     let start = in-loop .before .before .before .before in
     let a = start .args in
-    nears-near (a .nodes .now) (a .plan .now) (a .n) (a .p) (a .q) _ (start .pre .1 .1 .0)
+    nears-near (a .p) (start .pre .1 .0)
     (in-loop .before .loop .inv .1 _
     (shut (in-loop .loop-test .taken) (sym (there .before .turns-at .ensures) ∙ there .if1 .left)
     (sym (c .before .passes-at .ensures) ∙ not-true _ (c .if2 .taken))))
@@ -71,7 +72,7 @@ loop-less : tie.Need-loop-less Inv-loop μ-loop
 loop-less c =
     let in-loop = c .before .before .before .before .before .before in
     let start = in-loop .before .before .before .before in
-    let up = start .pre .1 .1 .1 (in-loop .before .loop .x) (in-loop .loop-test .taken) in
+    let up = rises (start .pre .1 .1 .1) (in-loop .before .loop .x) (in-loop .loop-test .taken) in
     omega (arith, c .above-of2 .ensures .0)
 
 loop-again : tie.Need-loop-again Inv-loop μ-loop
@@ -81,7 +82,7 @@ loop-again c =
     let in-loop = there .before .before in
     let start = in-loop .before .before .before .before in
     let a = start .args in
-    let up = start .pre .1 .1 .1 (in-loop .before .loop .x) (in-loop .loop-test .taken) in (
+    let up = rises (start .pre .1 .1 .1) (in-loop .before .loop .x) (in-loop .loop-test .taken) in (
       omega (arith, c .above-of2 .ensures .0),
       λ r w.
           in-loop .before .loop .inv .1 r
@@ -94,7 +95,7 @@ returns-3 : tie.Need-returns-3 Inv-loop μ-loop
 returns-3 c =
     let start = c .before .before .before .before in
     let a = start .args in
-    nears-near (a .nodes .now) (a .plan .now) (a .n) (a .p) (a .q) _ (start .pre .1 .1 .0) (c .before .loop .inv .1 _ (over (c .loop-test .left)))
+    nears-near (a .p) (start .pre .1 .0) (c .before .loop .inv .1 _ (over (c .loop-test .left)))
 
 pub near-spec : {M : Type 1} → statement M
 near-spec =
