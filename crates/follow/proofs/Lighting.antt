@@ -25,17 +25,17 @@ use Rattle.follow.proofs.EventNodes.{event-record, record-event}
 
 -- ---- one node
 
-pub code-near : {nodes plan : List ℕ} {n p q : ℕ} {r : Bool} (set : ℕ) → q < n → kindOf (held nodes q) ≡ 1 → TellsNear nodes plan n p q r → r ≡ true
-    → ((c : ℕ) → Has set c ↔ (c ≡ codeOf (held nodes q))) → CodeNear nodes plan n p q set
-code-near {nodes} {q = q} set l k w yes-near only = record {
+pub code-near : {nodes plan : List ℕ} {n p q : ℕ} {r : Bool} (set code : ℕ) → q < n → kindOf (held nodes q) ≡ 1 → TellsNear nodes plan n p q r
+    → r ≡ true → code ≡ codeOf (held nodes q) → ((c : ℕ) → Has set c ↔ (c ≡ code)) → CodeNear nodes plan n p q set
+code-near {nodes} {q = q} set code l k w yes-near told only = record {
   holds =
       λ e t pl same c. (
         λ h. (
           w .tells e t pl same .0 yes-near,
-          subst (λ (d : ℕ). Part 0 e q (event d)) (sym (only c .0 h))
+          subst (λ (d : ℕ). Part 0 e q (event d)) (sym (only c .0 h ∙ told))
               (record-event (held nodes) 0 e (pl .stands) q (omega arith) (omega (arith, pl .sized)) k),
         ),
-        λ f. only c .1 (sym (ap codeOf (event-record (held nodes) 0 e (pl .stands) q c (f .1)))),
+        λ f. only c .1 (sym (told ∙ ap codeOf (event-record (held nodes) 0 e (pl .stands) q c (f .1)))),
       );
 }
 
