@@ -11,3 +11,4 @@ mod Stepping
 mod Nearby
 mod EventNodes
 mod Lighting
+pub mod Continuing

@@ -104,6 +104,9 @@ lit-after {nodes} {plan} {n} {p} set l k kept near = record { holds = λ e pl c.
 pub lit-at-start : (plan : List ℕ) {nodes : List ℕ} {n set : ℕ} → StartLit nodes n set → LitAt nodes plan n 0 set
 lit-at-start plan start = record { holds = λ e pl. start .holds e (pl .stands) (pl .sized) }
 
+pub lit-as : {nodes plan : List ℕ} {n i node set : ℕ} → node ≡ i → LitAt nodes plan n i set → LitAt nodes plan n node set
+lit-as {nodes} {plan} {n} {i} {node} {set} same w = subst (λ (j : ℕ). LitAt nodes plan n j set) (sym same) w
+
 -- ---- first of the root
 
 -- what working out the root asks
