@@ -49,7 +49,7 @@ pub code-of-none : (nodes plan : List ℕ) (n p q set : ℕ) → ¬ (kindOf (hel
 code-of-none nodes plan n p q set other none = record {
   holds =
       λ e t pl same c.
-          (λ h. absurd (none c h), λ f. absurd (other (ap kindOf (event-record (held nodes) 0 e (pl .stands) q c (f .1)))));
+      (λ h. absurd (none c h), λ f. absurd (other (ap kindOf (event-record (held nodes) 0 e (pl .stands) q c (f .1)))));
 }
 
 -- ---- the nodes passed
@@ -124,6 +124,6 @@ unfolding SetsAt
 first-lit nodes n x kept sets = record {
   holds =
       λ e st sized c.
-          let last = root-size 0 e in
-          Iff·trans (sets 0 e st (omega arith) .firsts c) (first-iff-worded e (kept-bounded nodes n e kept st sized) c);
+      let last = root-size 0 e in
+      Iff·trans (sets 0 e st (omega arith) .firsts c) (first-iff-worded e (kept-bounded nodes n e kept st sized) c);
 }

@@ -182,8 +182,8 @@ pub nears-near : {nodes plan : List ℕ} {n q : ℕ} (p : ℕ) {r : Bool} → ki
 nears-near {nodes} {plan} {n} {q} p {r} k w = record {
   tells =
       λ e t pl same.
-          let whole = root-size 0 e in
-          let from = subst (λ (x : ℕ). Nears nodes plan n q (aboveAt plan x) r) (sym same) w in
-          onward-whole nodes plan n q (near 0 e t q) r (pl .few)
-          (nears nodes plan n q (pl .own) 0 e top (root 0 e) t r (at k) (pl .stands) (pl .planned) (omega arith) (omega (arith, pl .sized)) from);
+      let whole = root-size 0 e in
+      let from = subst (λ (x : ℕ). Nears nodes plan n q (aboveAt plan x) r) (sym same) w in
+      onward-whole nodes plan n q (near 0 e t q) r (pl .few)
+      (nears nodes plan n q (pl .own) 0 e top (root 0 e) t r (at k) (pl .stands) (pl .planned) (omega arith) (omega (arith, pl .sized)) from);
 }
