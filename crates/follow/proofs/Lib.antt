@@ -8,3 +8,7 @@ mod Upward
 mod Whole
 mod Links
 mod Stepping
+mod Nearby
+mod EventNodes
+mod Lighting
+pub mod Continuing

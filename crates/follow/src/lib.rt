@@ -4,3 +4,5 @@ pub mod plan; // plan.rt: the plan of a procedure
 mod climb; // climb.rt: the way up from an event node
 mod turn; // turn.rt: the counters after a turn
 pub mod step; // step.rt: the step to an event node
+mod near; // near.rt: which event nodes can directly follow one another in the loosened procedure
+mod prompt; // prompt.rt: the codes to light

@@ -1,0 +1,72 @@
+// The codes to light: at the start first of the root, and otherwise the codes of the event nodes that can directly follow the node
+// reached in the loosened procedure.
+ghost use mathlib.Core.Path.{_≡_};
+ghost use Prim.Native.Nat.{suc, _-_, _≤_, _<_};
+ghost use Rattle.meaning.specs.Expr.{Expr, size};
+ghost use Rattle.meaning.specs.Node.{Stands};
+ghost use Rattle.procedure.specs.Entry.{held, kindOf};
+ghost use Rattle.follow.specs.Plan.{Plans};
+ghost use Rattle.follow.specs.Near.{Kept, CodeNear, StartLit, LitAt};
+use crate::near;
+use judge::sets;
+use procedure::entry;
+
+// The code of node q, where that is an event that can directly follow event node p; and else no code.
+fn code_near(nodes: &[u64; 512], plan: &[u64; 512], n: usize, p: usize, q: usize) -> u64
+    requires { ⌜ p < n ⌝ }
+    requires { ⌜ q < n ⌝ }
+    requires { ⌜ Kept (now nodes) n ⌝ }
+    requires { ⌜ ((e : Expr) × Plans (now nodes) (now plan) n e) ⌝ }
+    ensures { λ r. ⌜ CodeNear (now (nodes .entry)) (now (plan .entry)) n p q r ⌝ }
+{
+    let node = nodes[q];
+    if entry::kind_of(node) != entry::EVENT {
+        return codes::none();
+    }
+    if near::near(nodes, plan, n, p, q) {
+        return codes::one(entry::code_of(node));
+    }
+    codes::none()
+}
+
+// After event node p.
+fn lit_after(nodes: &[u64; 512], plan: &[u64; 512], n: usize, p: usize) -> u64
+    requires { ⌜ p < n ⌝ }
+    requires { ⌜ kindOf (held (now nodes) p) ≡ 1 ⌝ }
+    requires { ⌜ Kept (now nodes) n ⌝ }
+    requires { ⌜ ((e : Expr) × Plans (now nodes) (now plan) n e) ⌝ }
+    ensures { λ r. ⌜ LitAt (now (nodes .entry)) (now (plan .entry)) n (suc p) r ⌝ }
+{
+    let mut lit = codes::none();
+    let mut q = 0;
+    while q < n {
+        lit = codes::union(lit, code_near(nodes, plan, n, p, q));
+        q += 1;
+    }
+    lit
+}
+
+// At the start.
+fn lit_at_start(nodes: &[u64; 512], n: usize) -> u64
+    requires { ⌜ n ≤ 512 ⌝ }
+    requires { ⌜ Kept (now nodes) n ⌝ }
+    requires { ⌜ ((e : Expr) × Stands (held (now nodes)) 0 e × (size e ≡ n)) ⌝ }
+    ensures { λ r. ⌜ StartLit (now (nodes .entry)) n r ⌝ }
+{
+    let root = sets::sets_of(nodes, n - 1);
+    root.first
+}
+
+// At a state's node: 0 at the start, or else 1 + the event node reached.
+pub fn lit(nodes: &[u64; 512], plan: &[u64; 512], n: usize, node: usize) -> u64
+    requires { ⌜ node ≤ n ⌝ }
+    requires { ⌜ (1 ≤ node → kindOf (held (now nodes) (node - 1)) ≡ 1) ⌝ }
+    requires { ⌜ Kept (now nodes) n ⌝ }
+    requires { ⌜ ((e : Expr) × Plans (now nodes) (now plan) n e) ⌝ }
+    ensures { λ r. ⌜ LitAt (now (nodes .entry)) (now (plan .entry)) n node r ⌝ }
+{
+    if node == 0 {
+        return lit_at_start(nodes, n);
+    }
+    lit_after(nodes, plan, n, node - 1)
+}
