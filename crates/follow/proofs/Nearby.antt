@@ -16,10 +16,10 @@ use Rattle.meaning.proofs.Parts.{root-size}
 use Rattle.meaning.proofs.Place.{Place, nodeOf}
 use Rattle.meaning.proofs.Ways.{Entry, enters, apart, entry, Way, turns, ends, stuck, mapWay, turnOr, climb, Turned}
 use Rattle.procedure.specs.Entry.{held, kindOf}
+use Rattle.follow.proofs.Tests.{bit-one}
 use Rattle.follow.specs.Plan.{aboveAt, emptyAt, top, Own, Planned, Plans, startsOf}
 use Rattle.follow.specs.Near.{mayTurn, turnsAt, passesAt, TellsNear}
 use Rattle.follow.proofs.Beginnings.{Starts, does, does-not, Target, at, starts-by-test}
-use Rattle.follow.proofs.Downward.{bit-one}
 
 -- the way up from node x, that node included, turns towards event node q or does not
 pub data Nears (nodes plan : List ℕ) (n q : ℕ) : ℕ → Bool → Type 0 where
