@@ -220,7 +220,7 @@ along e h d u v z p (reaches t k g) x r c =
 codes-join : (a y : List Item) (u w : List ℕ) → codes a ≡ u → codes y ≡ w → codes (a ++ y) ≡ u ++ w
 codes-join a y u w c d = codes-append a y ∙ ap₂ _++_ c d
 
-codes-rest : (a y : List Item) (u w : List ℕ) → codes a ≡ u → codes (a ++ y) ≡ u ++ w → codes y ≡ w
+pub codes-rest : (a y : List Item) (u w : List ℕ) → codes a ≡ u → codes (a ++ y) ≡ u ++ w → codes y ≡ w
 codes-rest a y u w c d = append-cancel-left u (codes y) w (ap (λ (t : List ℕ). t ++ codes y) (sym c) ∙ sym (codes-append a y) ∙ d)
 
 -- the second run's word

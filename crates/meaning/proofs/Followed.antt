@@ -18,7 +18,7 @@ use Rattle.meaning.proofs.Moves.{moves-list}
 use Rattle.meaning.proofs.Search.{word-decided, begins-decided, begins-way}
 
 -- what a run that begins a word begins with begins one too
-begins-shorter : (e : Expr) (u v : List ℕ) → Begins e (u ++ v) → Begins e u
+pub begins-shorter : (e : Expr) (u v : List ℕ) → Begins e (u ++ v) → Begins e u
 begins-shorter e u v k = (v ++ k .0, subst (Word e) (append-assoc u v (k .0)) (k .1))
 
 -- so do its first events

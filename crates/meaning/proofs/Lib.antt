@@ -39,3 +39,8 @@ pub mod Errors
 pub mod Directly
 pub mod Ways
 pub mod Loosened
+pub mod GoesOn
+pub mod Runs
+pub mod Follows
+pub mod EventNodes
+pub mod Pieces

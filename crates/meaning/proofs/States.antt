@@ -89,7 +89,7 @@ pub reaches-items : (e : Expr) (u : List ℕ) (x a : List Item) → Reading 0 e 
 reaches-items e u x a r h c = subst (λ (t : List Item). Reaches e u (stateOf e t)) h (reaches x r (ap codes h ∙ c))
 
 -- the run of the first part reaches the state after it
-parted-reaches : (e : Expr) (a y : List Item) → Parted e a y → Reaches e (codes a) (stateOf e a)
+pub parted-reaches : (e : Expr) (a y : List Item) → Parted e a y → Reaches e (codes a) (stateOf e a)
 parted-reaches e a y t =
     let up = stopped-upTo a (parted-stopped e a y t) y 0 (length (codes a)) (omega arith) ∙ ap {B = List Item} (λ v. a ++ v) (upTo-zero y) ∙ append-nil a in
     reaches-items e (codes a) (a ++ y) a (parted-reading e a y t) up refl

@@ -1,0 +1,188 @@
+-- Where a run stands: at the start or at a sound place whose state it reaches. From there a way to an event node takes its event, an
+-- event without a way does not continue the run, and the run is a word exactly where a reading may stop.
+use mathlib.Core.Path.{_≡_, refl, sym, ap, _∙_, subst, subst⁻¹}
+use mathlib.Core.Logic.{_↔_}
+use mathlib.Core.List.{List, [], _∷_, _++_, append-assoc, append-nil}
+use Prim.Native.Nat.{ℕ, zero, suc, _+_, _≤_, _<_}
+use native.Mathlib.Omega.{arith}
+use lib.ListN.{length, take, drop, getD, drop-of-length-le}
+use lib.Seq.{take-append-seam, drop-cons}
+use Rattle.meaning.specs.declared.Verdict.{Verdict}
+use Rattle.meaning.specs.declared.Verdict.the-variants.{Complete, Unfinished, Broken}
+use Rattle.meaning.specs.Expr.{Expr, event, Part, Bounded}
+use Rattle.meaning.specs.Word.{Word, Begins}
+use Rattle.meaning.specs.Reading.{Item, codes, upTo, Reading}
+use Rattle.meaning.specs.Strong.{StronglyDeterministic}
+use Rattle.meaning.specs.State.{State, stateOf, stateBytes, Reaches, reaches, ReachesBytes}
+use Rattle.meaning.specs.Promises.{VerdictOf, complete, unfinished, broken, Takes, GoesOn}
+use Rattle.meaning.proofs.Place.{Place, nodeOf, codeOf, itemOf, Sound, CanStart, opens, Step, Before}
+use Rattle.meaning.proofs.Items.{codes-append, codes-upTo}
+use Rattle.meaning.proofs.Records.{code-of-node}
+use Rattle.meaning.proofs.Directly.{place-part}
+use Rattle.meaning.proofs.WordReading.{word-iff-reading}
+use Rattle.meaning.proofs.Before.{before-start, before-step, some-before}
+use Rattle.meaning.proofs.Stays.{placeState, before-state}
+use Rattle.meaning.proofs.States.{run-within, reaches-begins, one-state, startState, Parted, at-start, at-place, parted-reading, reading-parted, parted-reaches}
+use Rattle.meaning.proofs.Continue.{alike-rest, same-state-alike, same-state-same-continuations, codes-rest}
+use Rattle.meaning.proofs.Spots.{Spot, start, behind, Move, Next, CanStop, last, Onward, Safe, onward-stop, onward-last, some-onward, last-no-event, onto, way-codes, way-onward, cut}
+use Rattle.meaning.proofs.Spots as spots
+use Rattle.meaning.proofs.Ways.{entry, enters, way, turns, entry-iff, way-step, step-turned, turned-to}
+use Rattle.meaning.proofs.Followed.{begins-shorter}
+use Rattle.meaning.proofs.GoesOn.{goes-on-after}
+
+-- ---- spots and the ways from them
+
+-- the state at the spot
+abbrev pub spotState : (e : Expr) → Spot e → State
+spotState e start = startState e
+spotState e (behind p) = placeState e p
+
+-- the way from the spot to event node q leads to the place
+abbrev pub LeadsTo : (e : Expr) → Spot e → ℕ → Place e → Type 0
+LeadsTo e start q t = entry 0 e q ≡ enters t
+LeadsTo e (behind p) q t = way 0 e p q ≡ turns t
+
+-- no event node with the code has a way from the spot
+unfoldable pub NoWay : (e : Expr) → Spot e → ℕ → Type 0
+NoWay e k c = (q : ℕ) → Part 0 e q (event c) → (t : Place e) → ¬ LeadsTo e k q t
+
+-- a way is a move to the node
+leads-move : (e : Expr) (k : Spot e) (q : ℕ) (t : Place e) → LeadsTo e k q t → (m : List Item) × Next e k (t, m) × (nodeOf 0 e t ≡ q)
+leads-move e start q t l = let z = entry-iff 0 e q t .0 l in (opens 0 e t, (z .0, refl), z .1)
+leads-move e (behind p) q t l = way-step 0 e p q t l
+
+-- a move has a way to its node
+move-leads : (e : Expr) (k : Spot e) (v : Move e) → Next e k v → (t : Place e) × LeadsTo e k (nodeOf 0 e (v .0)) t
+move-leads e start v n = (v .0, entry-iff 0 e (nodeOf 0 e (v .0)) (v .0) .1 (n .0, refl))
+move-leads e (behind p) v n = turned-to (way 0 e p (nodeOf 0 e (v .0))) (step-turned 0 e p (v .0) (v .1) n)
+
+-- a way to an event node leads to a place with its code
+pub leads-code : (e : Expr) (k : Spot e) (q c : ℕ) (t : Place e) → Part 0 e q (event c) → LeadsTo e k q t → codeOf e t ≡ c
+leads-code e k q c t w l =
+    code-of-node e q (codeOf e t) c (subst (λ (i : ℕ). Part 0 e i (event (codeOf e t))) (leads-move e k q t l .2) (place-part 0 e t)) w
+
+-- ---- items that lead to a spot
+
+-- the items stand before the spot
+abbrev LedTo : (e : Expr) → Spot e → List Item → Type 0
+LedTo e start a = a ≡ []
+LedTo e (behind p) a = Before 0 e p a
+
+-- every safe spot has some
+some-led : (e : Expr) → Bounded e → (k : Spot e) → Safe e k → (a : List Item) × LedTo e k a
+some-led e h start s = ([], refl)
+some-led e h (behind p) s = some-before 0 e h p s
+
+-- the state after them is the spot's
+led-state : (e : Expr) (k : Spot e) (a : List Item) → LedTo e k a → stateOf e a ≡ spotState e k
+led-state e start a l = ap (stateOf e) l
+led-state e (behind p) a l = before-state e p a l
+
+-- with what completes a reading from the spot they are a reading
+led-parted : (e : Expr) (k : Spot e) (a y : List Item) → Safe e k → LedTo e k a → Onward e k y → Parted e a y
+led-parted e start a y s l o = subst⁻¹ (λ (x : List Item). Parted e x y) l (at-start y o)
+led-parted e (behind p) a y s l o = at-place p a y s l o
+
+-- so their run reaches the spot's state
+led-reaches : (e : Expr) → Bounded e → (k : Spot e) (a : List Item) → Safe e k → LedTo e k a → Reaches e (codes a) (spotState e k)
+led-reaches e h k a s l =
+    let y = some-onward e h k s in
+    subst (Reaches e (codes a)) (led-state e k a l) (parted-reaches e a (y .0) (led-parted e k a (y .0) s l (y .1)))
+
+-- a move makes of them those before the next place
+led-move : (e : Expr) → Bounded e → (k : Spot e) (a : List Item) (v : Move e) → Safe e k → LedTo e k a → Next e k v
+    → Before 0 e (v .0) (a ++ (v .1 ++ (itemOf 0 e (v .0) ∷ [])))
+led-move e h start a v s l n = rw (l, n .1) (before-start 0 e h (v .0) (n .0))
+led-move e h (behind p) a v s l n = before-step 0 e h p (v .0) (v .1) a s l n
+
+-- what completes a reading after items with the spot's state completes one from the spot
+same-state-onward : (e : Expr) (k : Spot e) (a y : List Item) → Parted e a y → stateOf e a ≡ spotState e k → Onward e k y
+same-state-onward e start a y (at-start t r) h = r
+same-state-onward e (behind p) a y (at-start t r) h =
+    let n : 0 ≡ nodeOf 0 e p + 1 = ap (λ (z : State). z .node) h in absurd (omega arith)
+same-state-onward e start a y (at-place q b t k c r) h =
+    let n : nodeOf 0 e q + 1 ≡ 0 = ap (λ (z : State). z .node) (sym (before-state e q a c) ∙ h) in absurd (omega arith)
+same-state-onward e (behind p) a y (at-place q b t k c r) h =
+    alike-rest 0 e q p y (same-state-alike e q p (sym (before-state e q a c) ∙ h)) r
+
+-- ---- a run at a spot
+
+-- the run stands at the spot: it reaches the spot's state, by whatever places it went
+pub record RunAt (e : Expr) (w : List ℕ) (k : Spot e) : Type 0 where
+  pub safe : Safe e k
+  pub there : Reaches e w (spotState e k)
+
+-- it begins a word
+pub run-begins : (e : Expr) → Bounded e → (w : List ℕ) (k : Spot e) → RunAt e w k → Begins e w
+run-begins e h w k at = reaches-begins e h w (spotState e k) (at .there)
+
+-- a run that reaches a state stands at a spot with that state
+pub reaches-run : (e : Expr) → Bounded e → (w : List ℕ) (z : State) → Reaches e w z → (k : Spot e) × RunAt e w k × (spotState e k ≡ z)
+reaches-run e h w z (reaches x r c) = go (upTo x (length w)) (reaches x r c) (parted .0) (parted .1)
+  where
+    parted : (y : List Item) × Parted e (upTo x (length w)) y × (x ≡ upTo x (length w) ++ y)
+    parted = reading-parted e h x (length w) r (run-within x w c)
+
+    go : (a : List Item) → Reaches e w (stateOf e a) → (y : List Item) → Parted e a y → (k : Spot e) × RunAt e w k × (spotState e k ≡ stateOf e a)
+    go a t y (at-start b o) = (start, record { safe = tt; there = t }, refl)
+    go a t y (at-place p b v s l o) =
+        let same = before-state e p a l in
+        (behind p, record { safe = s; there = subst (Reaches e w) same t }, sym same)
+
+module _ (e : Expr) (h : Bounded e) (d : StronglyDeterministic e) (w : List ℕ) (k : Spot e) (at : RunAt e w k) where
+  -- what makes a word of the run completes a reading from the spot
+  word-onward : (r : List ℕ) → Word e (w ++ r) → (y : List Item) × Onward e k y × (codes y ≡ r)
+  word-onward r word =
+      let t = word-iff-reading 0 e h (w ++ r) .0 word in
+      let x = t .0 in
+      let a = upTo x (length w) in
+      let front : codes a ≡ w = codes-upTo x (length w) ∙ ap (take (length w)) (t .2) ∙ take-append-seam w r in
+      let z = reading-parted e h x (length w) (t .1) (run-within x w front) in
+      let same = one-state e d w (stateOf e a) (spotState e k) (reaches x (t .1) front) (at .there) in
+      (z .0, same-state-onward e k a (z .0) (z .1) same, codes-rest a (z .0) w r front (ap codes (sym (z .2)) ∙ t .2))
+
+  -- what completes a reading from the spot makes a word of the run
+  onward-word : (y : List Item) → Onward e k y → Word e (w ++ codes y)
+  onward-word y o =
+      let a = some-led e h k (at .safe) in
+      let all = parted-reading e (a .0) y (led-parted e k (a .0) y (at .safe) (a .1) o) in
+      let word = word-iff-reading 0 e h (codes (a .0) ++ codes y) .1 (a .0 ++ y, all, codes-append (a .0) y) in
+      same-state-same-continuations e h d (codes (a .0)) w (spotState e k) (led-reaches e h k (a .0) (at .safe) (a .1)) (at .there) (codes y) .1 .0 word
+
+  -- the run is a word exactly if a reading may stop at the spot
+  pub word-iff-stop : Word e w ↔ CanStop e k
+  word-iff-stop = (
+    λ word. let t = word-onward [] (subst⁻¹ (Word e) (append-nil w) word) in onward-last e h k (t .0) (t .1) (t .2) .0,
+    λ c.
+        let word = onward-word (last e k) (onward-stop e h k (at .safe) c) in
+        subst (Word e) (ap {B = List ℕ} (λ x. w ++ x) (last-no-event e k) ∙ append-nil w) word,
+  )
+
+  -- where no event node with the code has a way from the spot, the code does not continue the run
+  pub no-way-no-more : (c : ℕ) → NoWay e k c → ¬ Begins e (w ++ (c ∷ []))
+  unfolding NoWay
+  no-way-no-more c never b =
+      let t = word-onward (c ∷ b .0) (subst (Word e) (append-assoc w (c ∷ []) (b .0)) (b .1)) in
+      let step = cut e h k (c ∷ []) (b .0) (t .0) (t .1) (t .2) .way in
+      let v = step .0 in
+      let lead = move-leads e k v (step .1 .0) in
+      never (nodeOf 0 e (v .0)) (subst (λ (i : ℕ). Part 0 e (nodeOf 0 e (v .0)) (event i)) (step .1 .1) (place-part 0 e (v .0))) (lead .0) (lead .1)
+
+  -- with the event of a move the run stands behind it
+  run-move : (v : Move e) → Next e k v → RunAt e (w ++ (codeOf e (v .0) ∷ [])) (behind (v .0))
+  run-move v n =
+      let c = codeOf e (v .0) in
+      let s = at .safe in
+      let one-step : spots.Way e k (c ∷ []) (onto e v (behind (v .0), [])) = (v, (n, refl), ((behind (v .0), []), refl, refl)) in
+      let sound : Sound e (v .0) = way-onward e h k s (c ∷ []) (onto e v (behind (v .0), [])) one-step .0 in
+      let a = some-led e h k s in
+      let passed = v .1 ++ (itemOf 0 e (v .0) ∷ []) in
+      let run = codes-append (a .0) passed ∙ ap {B = List ℕ} (λ x. codes (a .0) ++ x) (way-codes e k (c ∷ []) (onto e v (behind (v .0), [])) one-step) in
+      let other = led-reaches e h (behind (v .0)) (a .0 ++ passed) sound (led-move e h k (a .0) v s (a .1) n) in
+      let reached = subst (λ (x : List ℕ). Reaches e x (placeState e (v .0))) run other in
+      let alike = same-state-same-continuations e h d (codes (a .0)) w (spotState e k) (led-reaches e h k (a .0) s (a .1)) (at .there) (c ∷ []) in
+      record { safe = sound; there = alike .2 (placeState e (v .0)) .0 reached }
+
+  -- with the event of a way the run stands behind it
+  pub run-next : (q : ℕ) (t : Place e) → LeadsTo e k q t → RunAt e (w ++ (codeOf e t ∷ [])) (behind t)
+  run-next q t l = let m = leads-move e k q t l in run-move (t, m .0) (m .1)
