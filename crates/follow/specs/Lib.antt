@@ -5,3 +5,4 @@ pub mod Counts
 pub mod Climb
 pub mod Filling
 pub mod Step
+pub mod Run

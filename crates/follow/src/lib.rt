@@ -4,3 +4,4 @@ pub mod plan; // plan.rt: the plan of a procedure
 mod climb; // climb.rt: the way up from an event node
 mod turn; // turn.rt: the counters after a turn
 pub mod step; // step.rt: the step to an event node
+pub mod run; // run.rt: a run of events
