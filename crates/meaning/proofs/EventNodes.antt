@@ -1,22 +1,23 @@
 -- The event nodes of an expression as they stand in node records; a file's codes are at most 63, so a code above never continues.
 use mathlib.Core.Path.{_≡_, refl, sym, ap, _∙_, subst}
-use mathlib.Core.Logic.{_↔_, inl, inr}
+use mathlib.Core.Logic.{_⊎_, inl, inr}
 use mathlib.Core.List.{List, [], _∷_, _++_, append-assoc, head-eq-of-cons-eq, tail-eq-of-cons-eq, cons≢nil}
 use Prim.Native.Nat.{ℕ, suc, _+_, _≤_, _<_}
 use native.Mathlib.Decide.{decLt}
 use native.Mathlib.Omega.{arith}
-use Rattle.meaning.specs.Expr.{Expr, empty, event, choice, sequence, repeat, size, Part, Bounded}
+use Rattle.meaning.specs.Expr.{Expr, empty, event, choice, sequence, repeat, size, Part}
 use Rattle.meaning.specs.Word.{Begins}
 use Rattle.meaning.specs.Reading.{Item, place, opening, closing, codes}
 use Rattle.meaning.specs.Node.{Node, node, InTable, empty-line, event-line, choice-line, sequence-line, repeat-line, Stands}
-use Rattle.meaning.specs.File.{Holds, count, nodeAt}
+use Rattle.meaning.specs.File.{Holds, nodeAt}
+use Rattle.meaning.proofs.Place.{Place}
 use Rattle.meaning.proofs.Parts.{part-within}
 use Rattle.meaning.proofs.Directly.{IsEvent}
 use Rattle.meaning.proofs.Records.{AllName, reading-names}
 use Rattle.meaning.proofs.WordReading.{word-iff-reading}
 use Rattle.meaning.proofs.Files.{holds-bounded}
 use Rattle.meaning.proofs.Spots.{Spot}
-use Rattle.meaning.proofs.Runs.{NoWay}
+use Rattle.meaning.proofs.Runs.{LeadsTo, NoWay}
 
 -- an event node stands as the record of an event
 pub part-stands : (g : ℕ → Node) (s : ℕ) (e : Expr) (q c : ℕ) → Stands g s e → Part s e q (event c) → g q ≡ node 1 c 0 0 0
@@ -31,26 +32,21 @@ part-stands g s (sequence l r) q c st (inr (inr w)) = absurd (subst IsEvent (w .
 part-stands g s (repeat b lower upper) q c st (inl w) = part-stands g s b q c (st .0) w
 part-stands g s (repeat b lower upper) q c st (inr w) = absurd (subst IsEvent (w .1) tt)
 
--- ---- the record of an event is an event node
-
--- the kind of a record
-kind : Node → ℕ
-kind (node k c x y z) = k
-
 -- the record of an event is not that of another kind
 not-kind : (g : ℕ → Node) (q i k c d x y z : ℕ) → g q ≡ node 1 c 0 0 0 → q ≡ i → g i ≡ node k d x y z → k ≡ 1
-unfolding kind
-not-kind g q i k c d x y z a e b = sym (ap kind b) ∙ ap (λ (j : ℕ). kind (g j)) (sym e) ∙ ap kind a
+not-kind g q i k c d x y z a e b = cc
 
--- where q stands: among the left child's nodes, among the right child's, or above them
-among : {P : Type 0} (m i q : ℕ) → q < suc i → (q < m → P) → (m ≤ q → q < i → P) → (q ≡ i → P) → P
-among {P} m i q below left right own = side (decLt q m) (decLt q i)
+-- what stands as the record of an event among two children and the node above them is a child's
+pair-stands : {A B C : Type 0} (g : ℕ → Node) (m i q k c x y : ℕ) → g i ≡ node k 0 x y 0 → ¬ (k ≡ 1) → q < suc i → g q ≡ node 1 c 0 0 0
+    → (q < m → A) → (m ≤ q → q < i → B) → A ⊎ B ⊎ C
+pair-stands {A} {B} {C} g m i q k c x y own other below w left right = side (decLt q m) (decLt q i)
   where
-    side : Dec (q < m) → Dec (q < i) → P
-    side (yes a) b = left a
-    side (no a) (yes b) = right (omega arith) b
-    side (no a) (no b) = own (omega arith)
+    side : Dec (q < m) → Dec (q < i) → A ⊎ B ⊎ C
+    side (yes a) b = inl (left a)
+    side (no a) (yes b) = inr (inl (right (omega arith) b))
+    side (no a) (no b) = absurd (other (not-kind g q i k c 0 x y 0 w (omega arith) own))
 
+-- what stands as the record of an event is an event node
 pub stands-part : (g : ℕ → Node) (s : ℕ) (e : Expr) (q c : ℕ) → Stands g s e → s ≤ q → q < s + size e → g q ≡ node 1 c 0 0 0 → Part s e q (event c)
 stands-part g s empty q c st from below w = absurd (omega (arith, not-kind g q s 0 c 0 0 0 0 w (omega arith) st))
 stands-part g s (event d) q c st from below w =
@@ -58,20 +54,25 @@ stands-part g s (event d) q c st from below w =
     let same = sym w ∙ ap g at ∙ st in
     (at, ap event (cc))
 stands-part g s (choice l r) q c st from below w =
-    among (s + size l) (s + size l + size r) q (omega arith)
-    (λ a. inl (stands-part g s l q c (st .0) from a w))
-    (λ a b. inr (inl (stands-part g (s + size l) r q c (st .1) a b w)))
-    (λ a. absurd (omega (arith, not-kind g q _ 2 c _ _ _ _ w a (st .2))))
+    pair-stands g (s + size l) (s + size l + size r) q 2 c _ _ (st .2) (omega arith) (omega arith) w
+    (λ a. stands-part g s l q c (st .0) from a w)
+    (λ a b. stands-part g (s + size l) r q c (st .1) a b w)
 stands-part g s (sequence l r) q c st from below w =
-    among (s + size l) (s + size l + size r) q (omega arith)
-    (λ a. inl (stands-part g s l q c (st .0) from a w))
-    (λ a b. inr (inl (stands-part g (s + size l) r q c (st .1) a b w)))
-    (λ a. absurd (omega (arith, not-kind g q _ 3 c _ _ _ _ w a (st .2))))
+    pair-stands g (s + size l) (s + size l + size r) q 3 c _ _ (st .2) (omega arith) (omega arith) w
+    (λ a. stands-part g s l q c (st .0) from a w)
+    (λ a b. stands-part g (s + size l) r q c (st .1) a b w)
 stands-part g s (repeat b lower upper) q c st from below w =
-    among (s + size b) (s + size b) q (omega arith)
-    (λ a. inl (stands-part g s b q c (st .0) from a w))
-    (λ a z. absurd (omega arith))
-    (λ a. absurd (omega (arith, not-kind g q _ 4 c _ _ _ _ w a (st .1 .1))))
+    body (λ a. stands-part g s b q c (st .0) from a w) (decLt q (s + size b))
+  where
+    body : (q < s + size b → Part s b q (event c)) → Dec (q < s + size b) → Part s (repeat b lower upper) q (event c)
+    body f (yes a) = inl (f a)
+    body f (no a) = absurd (omega (arith, not-kind g q (s + size b) 4 c 0 _ _ _ w (omega arith) (st .1 .1)))
+
+-- so where none of the records with the code leads on, no event node does
+pub no-way-stands : (g : ℕ → Node) (e : Expr) (k : Spot e) (c : ℕ) → Stands g 0 e
+    → ((q : ℕ) → q < size e → g q ≡ node 1 c 0 0 0 → (t : Place e) → ¬ LeadsTo e k q t) → NoWay e k c
+unfolding NoWay
+no-way-stands g e k c st never q w = never q (omega (arith, part-within 0 e q (event c) w)) (part-stands g 0 e q c st w)
 
 -- ---- codes above 63
 

@@ -8,16 +8,21 @@ use lib.ListN.{length, take, drop, getD, drop-of-length-le}
 use lib.Seq.{drop-cons}
 use Rattle.meaning.specs.declared.Verdict.{Verdict}
 use Rattle.meaning.specs.declared.Verdict.the-variants.{Complete, Unfinished, Broken}
+use Rattle.meaning.specs.declared.Refusal.the-variants.{Unreached}
+use Rattle.meaning.specs.declared.FollowAnswer.the-variants as follow
 use Rattle.meaning.specs.Expr.{Expr, event, Part, Bounded}
 use Rattle.meaning.specs.Word.{Word, Begins}
 use Rattle.meaning.specs.Strong.{StronglyDeterministic}
 use Rattle.meaning.specs.State.{stateBytes, ReachesBytes}
-use Rattle.meaning.specs.Promises.{VerdictOf, complete, unfinished, broken, Takes, GoesOn}
-use Rattle.meaning.proofs.Place.{Place, codeOf}
-use Rattle.meaning.proofs.Spots.{Spot, behind, CanStop}
+use Rattle.meaning.specs.File.{Admitted}
+use Rattle.meaning.specs.Promises.{VerdictOf, complete, unfinished, broken, GoesOn, Follows}
+use Rattle.meaning.proofs.Place.{Place}
+use Rattle.meaning.proofs.Files.{holds-bounded}
+use Rattle.meaning.proofs.Spots.{Spot, behind, CanStop, Safe}
 use Rattle.meaning.proofs.Followed.{begins-shorter}
 use Rattle.meaning.proofs.GoesOn.{goes-on-after}
 use Rattle.meaning.proofs.Runs.{spotState, LeadsTo, NoWay, leads-code, RunAt, run-begins, word-iff-stop, no-way-no-more, run-next}
+use Rattle.meaning.proofs.StateBytes.{bytes-reached-iff, reaches-bytes-run}
 
 -- from the first spot so many of the events are taken, each by a way, up to one without; the run then stands at the last spot
 pub data Going (e : Expr) : Spot e → List ℕ → ℕ → Spot e → Type 0 where
@@ -93,6 +98,10 @@ module _ (e : Expr) (h : Bounded e) (d : StronglyDeterministic e) where
 pub record Gone (e : Expr) (k : Spot e) (events : List ℕ) (i : ℕ) (j : Spot e) : Type 0 where
   pub onward : (n : ℕ) (l : Spot e) → Going e j (drop i events) n l → Going e k events (i + n) l
 
+-- the events from the i-th on
+from-here : (events : List ℕ) (i c : ℕ) → i < length events → getD events i 0 ≡ c → drop i events ≡ c ∷ drop (suc i) events
+from-here events i c h code = subst (λ (b : ℕ). drop i events ≡ b ∷ drop (suc i) events) code (drop-cons events i 0 h)
+
 -- at first none is taken
 pub gone-none : (e : Expr) (k : Spot e) (events : List ℕ) → Gone e k events 0 k
 gone-none e k events = record { onward = λ n l g. subst (λ (m : ℕ). Going e k events m l) (omega arith) g }
@@ -106,9 +115,8 @@ gone-more e k j events i c q t g h code p l = record { onward = on }
     on n z w =
         let later : i + 1 ≡ suc i = omega arith in
         let count : i + suc n ≡ i + 1 + n = omega arith in
-        let rest = subst (λ (b : ℕ). drop i events ≡ b ∷ drop (suc i) events) code (drop-cons events i 0 h) in
         let further = more j z c (drop (suc i) events) n q t p l (subst (λ (m : ℕ). Going e (behind t) (drop m events) n z) later w) in
-        subst (λ (m : ℕ). Going e k events m z) count (g .onward (suc n) z (subst⁻¹ (λ (b : List ℕ). Going e j b (suc n) z) rest further))
+        subst (λ (m : ℕ). Going e k events m z) count (g .onward (suc n) z (subst⁻¹ (λ (b : List ℕ). Going e j b (suc n) z) (from-here events i c h code) further))
 
 -- the events end here
 pub gone-done : (e : Expr) (k j : Spot e) (events : List ℕ) (i : ℕ) → Gone e k events i j → length events ≤ i → Going e k events i j
@@ -120,6 +128,23 @@ gone-done e k j events i g h =
 pub gone-stuck : (e : Expr) (k j : Spot e) (events : List ℕ) (i c : ℕ) → Gone e k events i j → i < length events → getD events i 0 ≡ c
     → NoWay e j c → Going e k events i j
 gone-stuck e k j events i c g h code n =
-    let rest = subst (λ (b : ℕ). drop i events ≡ b ∷ drop (suc i) events) code (drop-cons events i 0 h) in
     subst (λ (m : ℕ). Going e k events m j) (omega arith)
-    (g .onward 0 j (subst⁻¹ (λ (b : List ℕ). Going e j b 0 j) rest (stuck j c (drop (suc i) events) n)))
+    (g .onward 0 j (subst⁻¹ (λ (b : List ℕ). Going e j b 0 j) (from-here events i c h code) (stuck j c (drop (suc i) events) n)))
+
+-- ---- the promise
+
+-- the answer for the state's bytes of the first spot is what its events come to along the ways
+pub going-follows : (f state events : List ℕ) (e : Expr) (k j : Spot e) (t : ℕ) (v : Verdict) → Admitted f e → Safe e k
+    → state ≡ stateBytes (spotState e k) → Going e k events t j → VerdictAt e j t (length events) v
+    → Follows f state events (follow.Followed t v) (stateBytes (spotState e j))
+going-follows f state events e k j t v a s b g verdict =
+    let h = a .holds in
+    let u = bytes-reached-iff e (holds-bounded h) state .1 (k, s, b) in
+    Follows.followed e (u .0) t v (stateBytes (spotState e j)) a (u .1)
+    (λ w r. going-goes-on e (holds-bounded h) (a .strong) w k j events t v (reaches-bytes-run f e h k s state w b r) g verdict)
+
+-- the answer where the bytes are those of no safe spot
+pub no-spot-unreached : (f state events : List ℕ) (e : Expr) → Admitted f e
+    → ((k : Spot e) → Safe e k → ¬ (state ≡ stateBytes (spotState e k))) → Follows f state events (follow.Refused Unreached) state
+no-spot-unreached f state events e a n =
+    Follows.unreached e a (λ w r. let t = bytes-reached-iff e (holds-bounded (a .holds)) state .0 (w, r) in n (t .0) (t .1) (t .2))

@@ -41,6 +41,7 @@ pub mod Ways
 pub mod Loosened
 pub mod GoesOn
 pub mod Runs
+pub mod StateBytes
 pub mod Follows
 pub mod EventNodes
 pub mod Pieces

@@ -1,17 +1,14 @@
 -- Following a run in pieces is following it at once: as long as no earlier piece breaks, the last verdict, all the events taken and
 -- the state after them are those of one call on the whole.
-use mathlib.Core.Path.{_≡_, refl, sym, ap, _∙_, subst, subst⁻¹}
+use mathlib.Core.Path.{_≡_, refl, subst, subst⁻¹}
 use mathlib.Core.List.{List, [], _∷_, _++_, append-nil, flatten}
 use Prim.Native.Nat.{ℕ, _+_}
-use native.Mathlib.Omega.{arith}
 use lib.ListN.{length}
 use lib.Seq.{take-length}
 use Rattle.meaning.specs.declared.Verdict.{Verdict}
-use Rattle.meaning.specs.declared.Verdict.the-variants.{Complete, Unfinished, Broken}
-use Rattle.meaning.specs.declared.FollowAnswer.{FollowAnswer}
+use Rattle.meaning.specs.declared.Verdict.the-variants.{Broken}
 use Rattle.meaning.specs.declared.FollowAnswer.the-variants as follow
 use Rattle.meaning.specs.Expr.{Expr}
-use Rattle.meaning.specs.File.{Admitted}
 use Rattle.meaning.specs.State.{ReachesBytes}
 use Rattle.meaning.specs.Numbers.{FollowNumbers, followNumbers}
 use Rattle.meaning.specs.Promises.{VerdictOf, complete, unfinished, broken, GoesOn, Follows, FollowPromise}

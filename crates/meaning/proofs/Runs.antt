@@ -3,32 +3,27 @@
 use mathlib.Core.Path.{_≡_, refl, sym, ap, _∙_, subst, subst⁻¹}
 use mathlib.Core.Logic.{_↔_}
 use mathlib.Core.List.{List, [], _∷_, _++_, append-assoc, append-nil}
-use Prim.Native.Nat.{ℕ, zero, suc, _+_, _≤_, _<_}
+use Prim.Native.Nat.{ℕ, _+_, _≤_}
 use native.Mathlib.Omega.{arith}
-use lib.ListN.{length, take, drop, getD, drop-of-length-le}
-use lib.Seq.{take-append-seam, drop-cons}
-use Rattle.meaning.specs.declared.Verdict.{Verdict}
-use Rattle.meaning.specs.declared.Verdict.the-variants.{Complete, Unfinished, Broken}
-use Rattle.meaning.specs.Expr.{Expr, event, Part, Bounded}
+use lib.ListN.{length, take}
+use lib.Seq.{take-append-seam}
+use Rattle.meaning.specs.Expr.{Expr, event, size, Part, Bounded}
 use Rattle.meaning.specs.Word.{Word, Begins}
-use Rattle.meaning.specs.Reading.{Item, codes, upTo, Reading}
+use Rattle.meaning.specs.Reading.{Item, codes, upTo}
 use Rattle.meaning.specs.Strong.{StronglyDeterministic}
-use Rattle.meaning.specs.State.{State, stateOf, stateBytes, Reaches, reaches, ReachesBytes}
-use Rattle.meaning.specs.Promises.{VerdictOf, complete, unfinished, broken, Takes, GoesOn}
-use Rattle.meaning.proofs.Place.{Place, nodeOf, codeOf, itemOf, Sound, CanStart, opens, Step, Before}
+use Rattle.meaning.specs.State.{State, stateOf, Reaches, reaches}
+use Rattle.meaning.proofs.Place.{Place, nodeOf, codeOf, itemOf, Sound, opens, Before}
 use Rattle.meaning.proofs.Items.{codes-append, codes-upTo}
 use Rattle.meaning.proofs.Records.{code-of-node}
 use Rattle.meaning.proofs.Directly.{place-part}
 use Rattle.meaning.proofs.WordReading.{word-iff-reading}
+use Rattle.meaning.proofs.Steps.{start-sound, step-sound}
 use Rattle.meaning.proofs.Before.{before-start, before-step, some-before}
 use Rattle.meaning.proofs.Stays.{placeState, before-state}
 use Rattle.meaning.proofs.States.{run-within, reaches-begins, one-state, startState, Parted, at-start, at-place, parted-reading, reading-parted, parted-reaches}
 use Rattle.meaning.proofs.Continue.{alike-rest, same-state-alike, same-state-same-continuations, codes-rest}
-use Rattle.meaning.proofs.Spots.{Spot, start, behind, Move, Next, CanStop, last, Onward, Safe, onward-stop, onward-last, some-onward, last-no-event, onto, way-codes, way-onward, cut}
-use Rattle.meaning.proofs.Spots as spots
-use Rattle.meaning.proofs.Ways.{entry, enters, way, turns, entry-iff, way-step, step-turned, turned-to}
-use Rattle.meaning.proofs.Followed.{begins-shorter}
-use Rattle.meaning.proofs.GoesOn.{goes-on-after}
+use Rattle.meaning.proofs.Spots.{Spot, start, behind, Move, Next, CanStop, last, Onward, Safe, onward-stop, onward-last, some-onward, last-no-event, way-codes, cut}
+use Rattle.meaning.proofs.Ways.{enters, apart, entry, Way, turns, stuck, way, entry-iff, Turned, way-step, step-turned, turned-to, way-ends}
 
 -- ---- spots and the ways from them
 
@@ -60,6 +55,26 @@ move-leads e (behind p) v n = turned-to (way 0 e p (nodeOf 0 e (v .0))) (step-tu
 pub leads-code : (e : Expr) (k : Spot e) (q c : ℕ) (t : Place e) → Part 0 e q (event c) → LeadsTo e k q t → codeOf e t ≡ c
 leads-code e k q c t w l =
     code-of-node e q (codeOf e t) c (subst (λ (i : ℕ). Part 0 e i (event (codeOf e t))) (leads-move e k q t l .2) (place-part 0 e t)) w
+
+-- from a safe spot a way leads to a sound place
+pub leads-sound : (e : Expr) → Bounded e → (k : Spot e) → Safe e k → (q : ℕ) (t : Place e) → LeadsTo e k q t → Sound e t
+leads-sound e h start s q t l = start-sound e h t (entry-iff 0 e q t .0 l .0)
+leads-sound e h (behind p) s q t l = let z = way-step 0 e p q t l in step-sound 0 e h p t (z .0) s (z .1)
+
+-- where the way does not turn, it leads to no place
+pub unturned-no-lead : (e : Expr) (p : Place e) (q : ℕ) (x : Way (Place e)) → way 0 e p q ≡ x → ¬ Turned x → (t : Place e) → ¬ LeadsTo e (behind p) q t
+unturned-no-lead e p q x h n t w = n (subst⁻¹ Turned (sym h ∙ w) tt)
+
+-- nor does it from the start where there is no entry
+pub apart-no-lead : (e : Expr) (q : ℕ) → entry 0 e q ≡ apart → (t : Place e) → ¬ LeadsTo e start q t
+apart-no-lead e q h t w = let z : _≡_ {A = ℕ} 0 1 = cc in omega arith
+
+-- where the way towards no node of the expression is stuck, a reading may not stop
+pub stuck-no-stop : (e : Expr) (p : Place e) (q : ℕ) → size e ≤ q → way 0 e p q ≡ stuck → ¬ CanStop e (behind p)
+stuck-no-stop e p q h w c =
+    let ended = way-ends 0 e p q (omega arith) .1 c in
+    let z : _≡_ {A = ℕ} 0 1 = cc in
+    omega arith
 
 -- ---- items that lead to a spot
 
@@ -116,6 +131,10 @@ pub record RunAt (e : Expr) (w : List ℕ) (k : Spot e) : Type 0 where
 pub run-begins : (e : Expr) → Bounded e → (w : List ℕ) (k : Spot e) → RunAt e w k → Begins e w
 run-begins e h w k at = reaches-begins e h w (spotState e k) (at .there)
 
+-- some run stands at every safe spot
+pub some-run : (e : Expr) → Bounded e → (k : Spot e) → Safe e k → (w : List ℕ) × RunAt e w k
+some-run e h k s = let a = some-led e h k s in (codes (a .0), record { safe = s; there = led-reaches e h k (a .0) s (a .1) })
+
 -- a run that reaches a state stands at a spot with that state
 pub reaches-run : (e : Expr) → Bounded e → (w : List ℕ) (z : State) → Reaches e w z → (k : Spot e) × RunAt e w k × (spotState e k ≡ z)
 reaches-run e h w z (reaches x r c) = go (upTo x (length w)) (reaches x r c) (parted .0) (parted .1)
@@ -168,21 +187,18 @@ module _ (e : Expr) (h : Bounded e) (d : StronglyDeterministic e) (w : List ℕ)
       let lead = move-leads e k v (step .1 .0) in
       never (nodeOf 0 e (v .0)) (subst (λ (i : ℕ). Part 0 e (nodeOf 0 e (v .0)) (event i)) (step .1 .1) (place-part 0 e (v .0))) (lead .0) (lead .1)
 
-  -- with the event of a move the run stands behind it
-  run-move : (v : Move e) → Next e k v → RunAt e (w ++ (codeOf e (v .0) ∷ [])) (behind (v .0))
-  run-move v n =
-      let c = codeOf e (v .0) in
-      let s = at .safe in
-      let one-step : spots.Way e k (c ∷ []) (onto e v (behind (v .0), [])) = (v, (n, refl), ((behind (v .0), []), refl, refl)) in
-      let sound : Sound e (v .0) = way-onward e h k s (c ∷ []) (onto e v (behind (v .0), [])) one-step .0 in
-      let a = some-led e h k s in
-      let passed = v .1 ++ (itemOf 0 e (v .0) ∷ []) in
-      let run = codes-append (a .0) passed ∙ ap {B = List ℕ} (λ x. codes (a .0) ++ x) (way-codes e k (c ∷ []) (onto e v (behind (v .0), [])) one-step) in
-      let other = led-reaches e h (behind (v .0)) (a .0 ++ passed) sound (led-move e h k (a .0) v s (a .1) n) in
-      let reached = subst (λ (x : List ℕ). Reaches e x (placeState e (v .0))) run other in
-      let alike = same-state-same-continuations e h d (codes (a .0)) w (spotState e k) (led-reaches e h k (a .0) s (a .1)) (at .there) (c ∷ []) in
-      record { safe = sound; there = alike .2 (placeState e (v .0)) .0 reached }
-
   -- with the event of a way the run stands behind it
   pub run-next : (q : ℕ) (t : Place e) → LeadsTo e k q t → RunAt e (w ++ (codeOf e t ∷ [])) (behind t)
-  run-next q t l = let m = leads-move e k q t l in run-move (t, m .0) (m .1)
+  run-next q t l =
+      let c = codeOf e t in
+      let s = at .safe in
+      let sound = leads-sound e h k s q t l in
+      let move = leads-move e k q t l in
+      let v : Move e = (t, move .0) in
+      let a = some-led e h k s in
+      let passed = move .0 ++ (itemOf 0 e t ∷ []) in
+      let code = way-codes e k (c ∷ []) (behind t, passed) (v, (move .1, refl), ((behind t, []), refl, refl)) in
+      let run = codes-append (a .0) passed ∙ ap {B = List ℕ} (λ x. codes (a .0) ++ x) code in
+      let other = led-reaches e h (behind t) (a .0 ++ passed) sound (led-move e h k (a .0) v s (a .1) (move .1)) in
+      let alike = same-state-same-continuations e h d (codes (a .0)) w (spotState e k) (led-reaches e h k (a .0) s (a .1)) (at .there) (c ∷ []) in
+      record { safe = sound; there = alike .2 (placeState e t) .0 (subst (λ (x : List ℕ). Reaches e x (placeState e t)) run other) }
