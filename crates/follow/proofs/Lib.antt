@@ -8,3 +8,4 @@ mod Upward
 mod Whole
 mod Links
 mod Stepping
+mod Running

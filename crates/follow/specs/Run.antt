@@ -2,7 +2,8 @@
 use mathlib.Core.Path.{_≡_}
 use mathlib.Core.Bool.{Bool, true, false}
 use mathlib.Core.List.{List}
-use Prim.Native.Nat.{ℕ, _+_}
+use Prim.Native.Nat.{ℕ, _+_, _≤_, _<_}
+use lib.ListN.{getD}
 use Rattle.meaning.specs.Expr.{Expr, event, Part}
 use Rattle.meaning.proofs.Place.{Place, nodeOf}
 use Rattle.meaning.proofs.Spots.{Spot, start, behind}
@@ -14,6 +15,13 @@ use Rattle.follow.specs.Counts.{Marked, Unmarked}
 abbrev pub Stood : (e : Expr) → Spot e → ℕ → List ℕ → Type 0
 Stood e start node counts = (node ≡ 0) × Unmarked counts
 Stood e (behind p) node counts = (node ≡ nodeOf 0 e p + 1) × Marked counts e p
+
+-- r is the lowest number from `from` on whose entry is the one wanted, or n where there is none below n
+pub record Found (nodes : List ℕ) (n from wanted r : ℕ) : Type 0 where
+  pub above : from ≤ r
+  pub within : r ≤ n
+  pub below : (j : ℕ) → from ≤ j → j < r → ¬ (getD nodes j 0 ≡ wanted)
+  pub here : r < n → getD nodes r 0 ≡ wanted
 
 -- from the spot to event node q, with the counters c before and d after: yes exactly if the way leads to a place
 pub data Tried (e : Expr) (k : Spot e) (q : ℕ) : Bool → List ℕ → List ℕ → Type 0 where

@@ -1,13 +1,14 @@
 // A run of events from where a run stands: a node, which is 0 at the start or else 1 + the event node reached, and the counters.
 ghost use mathlib.Core.Path.{_≡_};
 ghost use Prim.Native.Nat.{_+_, _*_, _≤_, _<_};
+ghost use lib.ListN.{length};
 ghost use Rattle.meaning.specs.Expr.{Expr};
 ghost use Rattle.meaning.proofs.Spots.{Spot, CanStop};
 ghost use Rattle.meaning.proofs.Follows.{VerdictAt};
 ghost use Rattle.procedure.specs.Entry.{held, kindOf};
 ghost use Rattle.procedure.specs.Tests.{Decides};
 ghost use Rattle.follow.specs.Plan.{Plans};
-ghost use Rattle.follow.specs.Run.{Stood, Tried, Nexted, RanTo};
+ghost use Rattle.follow.specs.Run.{Stood, Found, Tried, Nexted, RanTo};
 use crate::step;
 use crate::table;
 use meaning::Verdict;
@@ -25,6 +26,22 @@ fn event_of(code: u8) -> u64
     ensures { λ r. ⌜ code < 256 ⌝ }
 {
     1 + 256 * (code as u64)
+}
+
+// The lowest node of the n, not below `from`, that is the entry wanted; n where there is none.
+fn find(nodes: &[u64; 512], n: usize, from: usize, wanted: u64) -> usize
+    requires { ⌜ n ≤ 512 ⌝ }
+    requires { ⌜ from ≤ n ⌝ }
+    ensures { λ r. ⌜ Found (now (nodes .entry)) n from wanted r ⌝ }
+{
+    let mut q = from;
+    while q < n {
+        if nodes[q] == wanted {
+            return q;
+        }
+        q += 1;
+    }
+    q
 }
 
 // From where the run stands to event node q. The counters change only where the answer is yes.
@@ -62,14 +79,12 @@ pub fn next(
     ensures { λ r. ⌜ ((e : Expr) (k : Spot e) → Plans (now (nodes .entry)) (now (plan .entry)) n e → Stood e k node (now (counts .entry)) → Nexted e k code r (now (counts .entry)) (now (counts .exit))) ⌝ }
 {
     let wanted = event_of(code);
-    let mut q = 0;
+    let mut q = find(nodes, n, 0, wanted);
     while q < n {
-        if nodes[q] == wanted {
-            if go_to(nodes, plan, n, node, counts, q) {
-                return q + 1;
-            }
+        if go_to(nodes, plan, n, node, counts, q) {
+            return q + 1;
         }
-        q += 1;
+        q = find(nodes, n, q + 1, wanted);
     }
     0
 }
@@ -86,6 +101,7 @@ pub fn run(
     requires { ⌜ node ≤ n ⌝ }
     requires { ⌜ ((e : Expr) × Plans (now nodes) (now plan) n e) ⌝ }
     ensures { λ r. ⌜ r .node ≤ n ⌝ }
+    ensures { λ r. ⌜ r .taken ≤ length (now (events .entry)) ⌝ }
     ensures { λ r. ⌜ ((e : Expr) (k : Spot e) → Plans (now (nodes .entry)) (now (plan .entry)) n e → Stood e k node (now (counts .entry)) → RanTo e k (now (events .entry)) (r .taken) (r .node) (now (counts .exit))) ⌝ }
 {
     let mut at = node;
@@ -119,22 +135,21 @@ pub fn can_stop(
     step::can_end(nodes, plan, n, counts, node - 1)
 }
 
-// How the run stands that took some of so many events.
+// How the run stands there that took some of so many events.
 pub fn verdict(
     nodes: &[u64; 512],
     plan: &[u64; 512],
     n: usize,
+    node: usize,
     counts: &[u16; 32],
-    ran: Ran,
+    taken: usize,
     given: usize,
 ) -> Verdict
-    requires { ⌜ ran .node ≤ n ⌝ }
-    requires { ⌜ ran .taken ≤ given ⌝ }
+    requires { ⌜ node ≤ n ⌝ }
+    requires { ⌜ taken ≤ given ⌝ }
     requires { ⌜ ((e : Expr) × Plans (now nodes) (now plan) n e) ⌝ }
-    ensures { λ r. ⌜ ((e : Expr) (k : Spot e) → Plans (now (nodes .entry)) (now (plan .entry)) n e → Stood e k (ran .node) (now (counts .entry)) → VerdictAt e k (ran .taken) given r) ⌝ }
+    ensures { λ r. ⌜ ((e : Expr) (k : Spot e) → Plans (now (nodes .entry)) (now (plan .entry)) n e → Stood e k node (now (counts .entry)) → VerdictAt e k taken given r) ⌝ }
 {
-    let node = ran.node;
-    let taken = ran.taken;
     if taken < given {
         return Verdict::Broken;
     }
