@@ -12,3 +12,4 @@ mod Nearby
 mod EventNodes
 mod Lighting
 pub mod Continuing
+mod Running

@@ -6,3 +6,4 @@ pub mod Climb
 pub mod Filling
 pub mod Step
 pub mod Near
+pub mod Run

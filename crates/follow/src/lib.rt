@@ -6,3 +6,4 @@ mod turn; // turn.rt: the counters after a turn
 pub mod step; // step.rt: the step to an event node
 mod near; // near.rt: which event nodes can directly follow one another in the loosened procedure
 mod prompt; // prompt.rt: the codes to light
+pub mod run; // run.rt: a run of events
