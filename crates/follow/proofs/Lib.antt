@@ -13,3 +13,4 @@ mod EventNodes
 mod Lighting
 pub mod Continuing
 mod Running
+mod StateBytes

@@ -7,3 +7,4 @@ pub mod Filling
 pub mod Step
 pub mod Near
 pub mod Run
+pub mod StateBytes

@@ -7,3 +7,4 @@ pub mod step; // step.rt: the step to an event node
 mod near; // near.rt: which event nodes can directly follow one another in the loosened procedure
 mod prompt; // prompt.rt: the codes to light
 pub mod run; // run.rt: a run of events
+pub mod state; // state.rt: where a run stands, and its bytes
