@@ -2,7 +2,7 @@
 use mathlib.Core.Logic.{_↔_, _⊎_, inl, inr, ⊎-elim}
 use mathlib.Core.Path.{_≡_, sym, subst}
 use Prim.Native.Nat.{ℕ, suc, _-_, _/_, _%_, _^_, _≤_, _<_}
-use native.Mathlib.Decide.{ℕ-discrete, decLe}
+use native.Mathlib.Decide.{decLe}
 use native.Mathlib.Nat.{le-antisymm, lt-of-lt-of-le, zero-div}
 use native.Mathlib.Omega.{arith}
 use lib.Bits.{and-lt, or-lt}

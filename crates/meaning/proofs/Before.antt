@@ -26,7 +26,7 @@ cat-event u (cat x y p q) f =
     omega arith
 
 -- the items before a place hold an event
-before-event : (s : ℕ) (e : Expr) (p : Place e) (u : List Item) → Before s e p u → 1 ≤ length (codes u)
+pub before-event : (s : ℕ) (e : Expr) (p : Place e) (u : List Item) → Before s e p u → 1 ≤ length (codes u)
 before-event s empty p u b = absurd b
 before-event s (event c) p u one = omega arith
 before-event s (choice l r) (inl p) u b = before-event s l p u b

@@ -2,10 +2,12 @@
 use mathlib.Core.Path.{_≡_, refl, sym, ap, _∙_, subst}
 use mathlib.Core.Logic.{_↔_, _⊎_, inl, inr, ⊎-elim}
 use mathlib.Core.Bool.{Bool, true, false, _||_, So, false≢true}
-use mathlib.Core.List.{List, [], _∷_, _++_, append-assoc, append-nil}
-use Prim.Native.Nat.{ℕ, zero, suc, _+_, _-_, _≤_, max}
+use mathlib.Core.List.{List, [], _∷_, _++_, append-assoc, append-nil, append-cancel-right, head-eq-of-cons-eq, tail-eq-of-cons-eq}
+use Prim.Native.Nat.{ℕ, zero, suc, _+_, _-_, _≤_, _<_, max}
+use native.Mathlib.Decide.{decLt}
 use native.Mathlib.Omega.{arith}
-use lib.ListN.{length, take}
+use lib.Dec.{T, eqb, eqb→eq, eqb-refl}
+use lib.ListN.{length, take, length-append}
 use Rattle.meaning.specs.Expr.{Upper, upto, endless, Within}
 use Rattle.meaning.specs.Lists.{Or, left, right, Cat, cat, Power, none, more}
 use Rattle.meaning.specs.Normal.{isZero, low}
@@ -125,3 +127,66 @@ module _ {A : Type 0} where
   pub some-power : {P : List A → Type 0} (x : List A) → P x → (n : ℕ) → (w : List A) × Power P n w
   some-power x p zero = ([], none)
   some-power x p (suc n) = let t = some-power x p n in (x ++ t .0, more n x (t .0) p (t .1))
+
+-- ---- equality as a test
+
+-- a test that does not pass is false, and one that passes is true
+pub test-false : (b : Bool) → ¬ T b → b ≡ false
+test-false true h = absurd (h tt)
+test-false false h = refl
+
+pub test-true : (b : Bool) → T b → b ≡ true
+test-true true h = refl
+test-true false h = absurd h
+
+-- a number equals itself
+pub eqb-same : (n : ℕ) → eqb n n ≡ true
+eqb-same n = test-true (eqb n n) (eqb-refl n)
+
+-- and not a larger one
+pub eqb-less : (m n : ℕ) → m < n → eqb m n ≡ false
+eqb-less m n h = test-false (eqb m n) (λ t. let e = eqb→eq m n t in omega arith)
+
+pub eqb-more : (m n : ℕ) → n < m → eqb m n ≡ false
+eqb-more m n h = test-false (eqb m n) (λ t. let e = eqb→eq m n t in omega arith)
+
+-- a number is none of those below m, or none of those from m on
+pub none-below-or-none-from : (n m : ℕ) → ((k : ℕ) → k < m → eqb k n ≡ false) ⊎ ((k : ℕ) → m ≤ k → eqb k n ≡ false)
+none-below-or-none-from n m = decide (decLt n m)
+  where
+    decide : Dec (n < m) → ((k : ℕ) → k < m → eqb k n ≡ false) ⊎ ((k : ℕ) → m ≤ k → eqb k n ≡ false)
+    decide (yes h) = inr (λ k g. eqb-more k n (omega arith))
+    decide (no h) = inl (λ k g. eqb-less k n (omega arith))
+
+-- a number equals another, or the test says that it does not
+pub same-or-other : (m n : ℕ) → (m ≡ n) ⊎ (eqb m n ≡ false)
+same-or-other m n = tested (eqb m n) (eqb→eq m n)
+  where
+    tested : (b : Bool) → (T b → m ≡ n) → (m ≡ n) ⊎ (b ≡ false)
+    tested true h = inl (h tt)
+    tested false h = inr refl
+
+-- ---- equal lists
+
+-- equal lists whose fronts are as long fall into equal fronts and equal rests
+pub append-split : {A : Type 0} (u v x y : List A) → length u ≡ length v → u ++ x ≡ v ++ y → (u ≡ v) × (x ≡ y)
+append-split [] [] x y l h = (refl, h)
+append-split [] (b ∷ v) x y l h = absurd (omega arith)
+append-split (a ∷ u) [] x y l h = absurd (omega arith)
+append-split (a ∷ u) (b ∷ v) x y l h =
+    let t = append-split u v x y (omega arith) (tail-eq-of-cons-eq h) in
+    let f = head-eq-of-cons-eq h in
+    let g = t .0 in
+    (λ i. f i ∷ g i, t .1)
+
+-- equal lists have equal fronts before the last element, and the same last element
+pub last-split : {A : Type 0} (u v : List A) (a b : A) → u ++ (a ∷ []) ≡ v ++ (b ∷ []) → (u ≡ v) × (a ≡ b)
+last-split u v a b h =
+    let z = last-same u v a b h in (append-cancel-right u v (a ∷ []) (h ∙ ap (λ x. v ++ (x ∷ [])) (sym z)), z)
+
+-- lists as long after lists as long
+pub length-both : {A : Type 0} (u v x y : List A) → length u ≡ length v → length x ≡ length y → length (u ++ x) ≡ length (v ++ y)
+length-both u v x y h k =
+    let a = length-append u x in
+    let b = length-append v y in
+    omega arith

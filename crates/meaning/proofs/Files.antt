@@ -11,14 +11,7 @@ use lib.Dec.{eqb}
 use Rattle.meaning.specs.Expr.{Expr, empty, event, choice, sequence, repeat, upto, endless, Within, size, root, Bounded}
 use Rattle.meaning.specs.Node.{Node, node, InTable, empty-line, event-line, choice-line, sequence-line, repeat-line, bound, Stands}
 use Rattle.meaning.specs.File.{Holds, count, nodeAt}
-
--- the node after the root is the first past the part
-pub root-size : (s : ℕ) (e : Expr) → suc (root s e) ≡ s + size e
-root-size s empty = omega arith
-root-size s (event c) = omega arith
-root-size s (choice l r) = omega arith
-root-size s (sequence l r) = omega arith
-root-size s (repeat b lower upper) = omega arith
+pub use Rattle.meaning.proofs.Parts.{root-size}
 
 -- ---- a root determines start and tree
 

@@ -1,38 +1,17 @@
 -- A code of after forks a reading: it may stop after some event, and go on from there with the code.
 use mathlib.Core.Path.{subst}
-use mathlib.Core.Logic.{inl, inr}
 use mathlib.Core.List.{List, _∷_, _++_}
 use Prim.Native.Nat.{ℕ, _+_, _≤_, _<_}
 use native.Mathlib.Omega.{arith}
-use lib.ListN.{length, length-append}
-use Rattle.meaning.specs.Expr.{Expr, empty, event, choice, sequence, repeat, size, Bounded}
-use Rattle.meaning.specs.Lists.{one, Cat, cat}
+use lib.ListN.{length}
+use Rattle.meaning.specs.Expr.{Expr, size, Bounded}
 use Rattle.meaning.specs.Reading.{Item, place, codes, Reading}
 use Rattle.meaning.specs.Sets.{After}
-use Rattle.meaning.proofs.Items.{codes-append}
-use Rattle.meaning.proofs.Place.{Place, nodeOf, closes, Before}
+use Rattle.meaning.proofs.Place.{nodeOf, closes}
 use Rattle.meaning.proofs.Marks.{Marks, node-below, closes-marks, step-marks}
 use Rattle.meaning.proofs.Steps.{ends, steps, goes-rest, step-sound}
-use Rattle.meaning.proofs.Before.{before-rest-reading, some-before, some-rest}
+use Rattle.meaning.proofs.Before.{before-event, before-rest-reading, some-before, some-rest}
 use Rattle.meaning.proofs.FirstAfter.{after-ends-and-goes}
-
--- an event in the second list is one in both
-event-behind : (u v : List Item) → 1 ≤ length (codes v) → 1 ≤ length (codes (u ++ v))
-event-behind u v h = rw (codes-append u v, length-append (codes u) (codes v)) (omega arith)
-
--- so where every second list has one
-event-in-cat : {P Q : List Item → Type 0} → ((v : List Item) → Q v → 1 ≤ length (codes v)) → (u : List Item) → Cat P Q u → 1 ≤ length (codes u)
-event-in-cat f _ (cat u v p q) = event-behind u v (f v q)
-
--- the items before a place hold its event
-before-event : (s : ℕ) (e : Expr) (p : Place e) (u : List Item) → Before s e p u → 1 ≤ length (codes u)
-before-event s empty p u b = absurd b
-before-event s (event c) p u one = omega arith
-before-event s (choice l r) (inl p) u b = before-event s l p u b
-before-event s (choice l r) (inr p) u b = before-event (s + size l) r p u b
-before-event s (sequence l r) (inl p) u b = before-event s l p u b
-before-event s (sequence l r) (inr p) u b = event-in-cat (before-event (s + size l) r p) u b
-before-event s (repeat b lower upper) p u k = event-in-cat (event-in-cat (before-event s b (p .0))) u k
 
 -- a reading that may stop after the items u, and one that goes on from there with a code of after
 pub record Fork (s : ℕ) (e : Expr) (c : ℕ) : Type 0 where

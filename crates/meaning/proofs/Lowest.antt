@@ -11,7 +11,7 @@ use Rattle.meaning.specs.Normal.{nullable, low}
 use Rattle.meaning.specs.Strong.{StronglyDeterministic}
 use Rattle.meaning.specs.Sets.{First, Starts, After}
 use Rattle.meaning.specs.Conflict.{Conflict, ConflictAt, LowestConflict}
-use Rattle.meaning.proofs.Parts.{part-below}
+use Rattle.meaning.proofs.Parts.{part-within}
 use Rattle.meaning.proofs.Least.{dec-or, dec-three, dec-four, Least, least-or-none, some-decided, not-none}
 use Rattle.meaning.proofs.Diverge.{strong-no-conflict, strong-iff-no-conflict}
 
@@ -118,7 +118,7 @@ part-top s (repeat b lower upper) i p (inr w) = le-of-eq (ap top (w .1))
 
 -- so nodes, kinds and codes of conflicts are bounded
 node-bound : (e : Expr) (i k c : ℕ) → ConflictAt 0 e i k c → i < 0 + size e
-node-bound e i k c f = part-below 0 e i (f .0) (f .1)
+node-bound e i k c f = part-within 0 e i (f .0) (f .1) .1
 
 kind-bound : (e : Expr) (i k c : ℕ) → ConflictAt 0 e i k c → k < 5
 kind-bound e i k c f = let h = conflict-bounds (f .0) k c (f .2) in omega arith

@@ -48,25 +48,28 @@ marks-apart n i c [] (b ∷ m) y z h g p = let l : n < n = subst⁻¹ (Mark n) (
 marks-apart n i c (a ∷ x) [] y z h g p = subst (Mark n) (head-eq-of-cons-eq p) (h .0)
 marks-apart n i c (a ∷ x) (b ∷ m) y z h g p = marks-apart n i c x m y z (h .1) (g .1) (tail-eq-of-cons-eq p)
 
--- the node of a place is one of the part's: not before its first
-pub node-from : (s : ℕ) (e : Expr) (p : Place e) → s ≤ nodeOf s e p
-node-from s empty p = elim p [ ]
-node-from s (event c) p = omega arith
-node-from s (choice l r) (inl p) = node-from s l p
-node-from s (choice l r) (inr p) = let h = node-from (s + size l) r p in omega arith
-node-from s (sequence l r) (inl p) = node-from s l p
-node-from s (sequence l r) (inr p) = let h = node-from (s + size l) r p in omega arith
-node-from s (repeat b lower upper) p = node-from s b (p .0)
+-- the node of a place is one of the part's
+pub node-within : (s : ℕ) (e : Expr) (p : Place e) → (s ≤ nodeOf s e p) × (nodeOf s e p < s + size e)
+node-within s empty p = absurd p
+node-within s (event c) p = omega arith
+node-within s (choice l r) (inl p) = let h = node-within s l p in omega arith
+node-within s (choice l r) (inr p) = let h = node-within (s + size l) r p in omega arith
+node-within s (sequence l r) (inl p) = let h = node-within s l p in omega arith
+node-within s (sequence l r) (inr p) = let h = node-within (s + size l) r p in omega arith
+node-within s (repeat b lower upper) p = let h = node-within s b (p .0) in omega arith
 
--- nor behind its last
+-- a node of the left part is none of the right
+pub left-not-right : (s : ℕ) (l r : Expr) (p : Place l) (q : Place r) → ¬ (nodeOf s l p ≡ nodeOf (s + size l) r q)
+left-not-right s l r p q h =
+    let a = node-within s l p in
+    let b = node-within (s + size l) r q in
+    omega arith
+
+pub node-from : (s : ℕ) (e : Expr) (p : Place e) → s ≤ nodeOf s e p
+node-from s e p = node-within s e p .0
+
 pub node-below : (s : ℕ) (e : Expr) (p : Place e) → nodeOf s e p < s + size e
-node-below s empty p = elim p [ ]
-node-below s (event c) p = omega arith
-node-below s (choice l r) (inl p) = let h = node-below s l p in omega arith
-node-below s (choice l r) (inr p) = let h = node-below (s + size l) r p in omega arith
-node-below s (sequence l r) (inl p) = let h = node-below s l p in omega arith
-node-below s (sequence l r) (inr p) = let h = node-below (s + size l) r p in omega arith
-node-below s (repeat b lower upper) p = let h = node-below s b (p .0) in omega arith
+node-below s e p = node-within s e p .1
 
 -- the openings on the way to a place are marks of the part
 pub opens-marks : (n s : ℕ) (e : Expr) → s + size e ≤ n → (p : Place e) → Marks n (opens s e p)

@@ -2,7 +2,7 @@
 use mathlib.Core.Path.{_≡_, refl, sym, _∙_, ap, subst⁻¹}
 use mathlib.Core.Logic.{inl, inr}
 use mathlib.Core.List.{List, [], _∷_, _++_}
-use Prim.Native.Nat.{ℕ, zero, suc, _+_, _≤_, _<_}
+use Prim.Native.Nat.{ℕ, zero, suc, _+_, _≤_}
 use native.Mathlib.Omega.{arith}
 use lib.ListN.{length, take}
 use lib.Seq.{length-take-le}
@@ -14,6 +14,7 @@ use Rattle.meaning.specs.Word.{Word}
 use Rattle.meaning.proofs.Before.{reading-cut}
 use Rattle.meaning.proofs.Facts.{lastOr, last-append}
 use Rattle.meaning.proofs.Items.{codes-event, events-append, codes-upTo}
+use Rattle.meaning.proofs.Marks.{left-not-right}
 use Rattle.meaning.proofs.Place.{Place, nodeOf, codeOf, itemOf, opens, closes, Before}
 use Rattle.meaning.proofs.Steps.{Begun, nothing, first, reading-begun, Goes, ends, steps, rest-goes}
 use Rattle.meaning.proofs.Unique.{Free, free-strong}
@@ -24,23 +25,6 @@ pub readings-agree : (e : Expr) → StronglyDeterministic e → (n : ℕ) (x y :
     → n ≤ length (codes x) → n ≤ length (codes y) → take n (codes x) ≡ take n (codes y) → upTo x n ≡ upTo y n
 unfolding StronglyDeterministic
 readings-agree e d = d
-
--- the node of a place is one of the part's
-node-within : (s : ℕ) (e : Expr) (p : Place e) → (s ≤ nodeOf s e p) × (nodeOf s e p < s + size e)
-node-within s empty p = absurd p
-node-within s (event c) p = omega arith
-node-within s (choice l r) (inl p) = let h = node-within s l p in omega arith
-node-within s (choice l r) (inr p) = let h = node-within (s + size l) r p in omega arith
-node-within s (sequence l r) (inl p) = let h = node-within s l p in omega arith
-node-within s (sequence l r) (inr p) = let h = node-within (s + size l) r p in omega arith
-node-within s (repeat b lower upper) p = let h = node-within s b (p .0) in omega arith
-
--- a node of the left part is none of the right
-left-not-right : (s : ℕ) (l r : Expr) (p : Place l) (q : Place r) → ¬ (nodeOf s l p ≡ nodeOf (s + size l) r q)
-left-not-right s l r p q h =
-    let a = node-within s l p in
-    let b = node-within (s + size l) r q in
-    omega arith
 
 -- the closings after a place depend on its node alone
 closes-by-node : (s : ℕ) (e : Expr) (p q : Place e) → nodeOf s e p ≡ nodeOf s e q → closes s e p ≡ closes s e q

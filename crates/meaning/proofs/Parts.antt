@@ -1,30 +1,59 @@
--- The parts of an expression: their nodes, and the parts of a part.
-use mathlib.Core.Path.{_≡_, subst, subst⁻¹}
-use mathlib.Core.Logic.{inl, inr}
+-- The parts of an expression: their nodes, that a node has one part, and the parts of a part.
+use mathlib.Core.Path.{_≡_, sym, _∙_, subst, subst⁻¹}
+use mathlib.Core.Logic.{_⊎_, inl, inr}
 use Prim.Native.Nat.{ℕ, suc, _+_, _≤_, _<_}
 use native.Mathlib.Omega.{arith}
 use Rattle.meaning.specs.Expr.{Expr, empty, event, choice, sequence, repeat, size, root, Part, Bounded}
 
 -- a part's own node is its last
-pub root-last : (s : ℕ) (e : Expr) → suc (root s e) ≡ s + size e
-root-last s empty = omega arith
-root-last s (event c) = omega arith
-root-last s (choice l r) = omega arith
-root-last s (sequence l r) = omega arith
-root-last s (repeat b lower upper) = omega arith
+pub root-size : (s : ℕ) (e : Expr) → suc (root s e) ≡ s + size e
+root-size s empty = omega arith
+root-size s (event c) = omega arith
+root-size s (choice l r) = omega arith
+root-size s (sequence l r) = omega arith
+root-size s (repeat b lower upper) = omega arith
 
 -- the node of a part is one of the whole's
-pub part-below : (s : ℕ) (e : Expr) (i : ℕ) (p : Expr) → Part s e i p → i < s + size e
-part-below s empty i p w = let h = w .0 in omega arith
-part-below s (event c) i p w = let h = w .0 in omega arith
-part-below s (choice l r) i p (inl w) = let h = part-below s l i p w in omega arith
-part-below s (choice l r) i p (inr (inl w)) = let h = part-below (s + size l) r i p w in omega arith
-part-below s (choice l r) i p (inr (inr w)) = let h = w .0 in omega arith
-part-below s (sequence l r) i p (inl w) = let h = part-below s l i p w in omega arith
-part-below s (sequence l r) i p (inr (inl w)) = let h = part-below (s + size l) r i p w in omega arith
-part-below s (sequence l r) i p (inr (inr w)) = let h = w .0 in omega arith
-part-below s (repeat b lower upper) i p (inl w) = let h = part-below s b i p w in omega arith
-part-below s (repeat b lower upper) i p (inr w) = let h = w .0 in omega arith
+pub part-within : (s : ℕ) (e : Expr) (i : ℕ) (p : Expr) → Part s e i p → (s ≤ i) × (i < s + size e)
+part-within s empty i p h = omega arith
+part-within s (event c) i p h = omega arith
+part-within s (choice l r) i p (inl h) = omega (arith, part-within s l i p h)
+part-within s (choice l r) i p (inr (inl h)) = omega (arith, part-within (s + size l) r i p h)
+part-within s (choice l r) i p (inr (inr h)) = omega arith
+part-within s (sequence l r) i p (inl h) = omega (arith, part-within s l i p h)
+part-within s (sequence l r) i p (inr (inl h)) = omega (arith, part-within (s + size l) r i p h)
+part-within s (sequence l r) i p (inr (inr h)) = omega arith
+part-within s (repeat b lower upper) i p (inl h) = omega (arith, part-within s b i p h)
+part-within s (repeat b lower upper) i p (inr h) = omega arith
+
+-- the parts of two children and of the node above them do not meet
+pair-part-unique : (s l r : ℕ) (e : Expr) {A B : ℕ → Expr → Type 0} → ((i : ℕ) (p : Expr) → A i p → (s ≤ i) × (i < s + l))
+    → ((i : ℕ) (p : Expr) → B i p → (s + l ≤ i) × (i < s + l + r)) → (i : ℕ) (p q : Expr) → (A i p → A i q → p ≡ q) → (B i p → B i q → p ≡ q)
+    → A i p ⊎ B i p ⊎ ((i ≡ s + l + r) × (p ≡ e)) → A i q ⊎ B i q ⊎ ((i ≡ s + l + r) × (q ≡ e)) → p ≡ q
+pair-part-unique s l r e a b i p q f g (inl x) (inl y) = f x y
+pair-part-unique s l r e a b i p q f g (inl x) (inr (inl y)) = absurd (omega (arith, a i p x, b i q y))
+pair-part-unique s l r e a b i p q f g (inl x) (inr (inr y)) = absurd (omega (arith, a i p x))
+pair-part-unique s l r e a b i p q f g (inr (inl x)) (inl y) = absurd (omega (arith, b i p x, a i q y))
+pair-part-unique s l r e a b i p q f g (inr (inl x)) (inr (inl y)) = g x y
+pair-part-unique s l r e a b i p q f g (inr (inl x)) (inr (inr y)) = absurd (omega (arith, b i p x))
+pair-part-unique s l r e a b i p q f g (inr (inr x)) (inl y) = absurd (omega (arith, a i q y))
+pair-part-unique s l r e a b i p q f g (inr (inr x)) (inr (inl y)) = absurd (omega (arith, b i q y))
+pair-part-unique s l r e a b i p q f g (inr (inr x)) (inr (inr y)) = x .1 ∙ sym (y .1)
+
+-- a node has one part
+pub part-unique : (s : ℕ) (e : Expr) (i : ℕ) (p q : Expr) → Part s e i p → Part s e i q → p ≡ q
+part-unique s empty i p q a b = a .1 ∙ sym (b .1)
+part-unique s (event c) i p q a b = a .1 ∙ sym (b .1)
+part-unique s (choice l r) i p q a b =
+    pair-part-unique s (size l) (size r) (choice l r) {A = Part s l} {B = Part (s + size l) r} (part-within s l) (part-within (s + size l) r) i p q
+    (part-unique s l i p q) (part-unique (s + size l) r i p q) a b
+part-unique s (sequence l r) i p q a b =
+    pair-part-unique s (size l) (size r) (sequence l r) {A = Part s l} {B = Part (s + size l) r} (part-within s l) (part-within (s + size l) r) i p q
+    (part-unique s l i p q) (part-unique (s + size l) r i p q) a b
+part-unique s (repeat b lower upper) i p q (inl x) (inl y) = part-unique s b i p q x y
+part-unique s (repeat b lower upper) i p q (inl x) (inr y) = absurd (omega (arith, part-within s b i p x))
+part-unique s (repeat b lower upper) i p q (inr x) (inl y) = absurd (omega (arith, part-within s b i q y))
+part-unique s (repeat b lower upper) i p q (inr x) (inr y) = x .1 ∙ sym (y .1)
 
 -- where the part with node i begins: its parts are parts of the whole, at nodes up to i
 pub record Inner (s : ℕ) (e : Expr) (i : ℕ) (p : Expr) : Type 0 where
@@ -42,8 +71,8 @@ itself s e i p h g = record {
   start = s;
   parts = λ j q. subst (λ f. Part s f j q) g;
   up-to = λ j q w.
-      let a = part-below s e j q (subst (λ f. Part s f j q) g w) in
-      let b = root-last s e in
+      let a = part-within s e j q (subst (λ f. Part s f j q) g w) in
+      let b = root-size s e in
       omega arith;
 }
 

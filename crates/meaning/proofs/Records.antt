@@ -1,58 +1,15 @@
 -- The record's bytes determine the items of a reading: every item names a node of the expression, and an event's code follows
 -- from its node.
-use mathlib.Core.Path.{_≡_, refl, sym, ap, _∙_, subst}
-use mathlib.Core.Logic.{_⊎_, inl, inr}
-use mathlib.Core.List.{List, [], _∷_, _++_, map}
-use Prim.Native.Nat.{ℕ, zero, suc, _+_, _*_, _/_, _%_, _≤_, _<_}
+use mathlib.Core.Path.{_≡_, refl, subst}
+use mathlib.Core.Logic.{inl, inr}
+use mathlib.Core.List.{List, [], _∷_, _++_}
+use Prim.Native.Nat.{ℕ, _+_, _/_, _%_, _≤_, _<_}
 use native.Mathlib.Omega.{arith}
-use Rattle.meaning.specs.Expr.{Expr, empty, event, choice, sequence, repeat, Upper, size, root, Whole, Part}
-use Rattle.meaning.specs.Lists.{Nil, nil, One, one, Or, left, right, Cat, cat, Power, none, more, Times, times}
+use Rattle.meaning.specs.Expr.{Expr, empty, event, choice, sequence, repeat, size, Part}
+use Rattle.meaning.specs.Lists.{nil, one, left, right, cat, Power, none, more, times}
 use Rattle.meaning.specs.Reading.{Item, place, opening, closing, Block, block, Reading}
-use Rattle.meaning.specs.Bytes.{inTwos}
 use Rattle.meaning.specs.Record.{itemNumber, recordBytes}
-
--- ---- each node has one part
-
-part-within : (s : ℕ) (e : Expr) (i : ℕ) (p : Expr) → Part s e i p → (s ≤ i) × (i < s + size e)
-part-within s empty i p h = omega arith
-part-within s (event c) i p h = omega arith
-part-within s (choice l r) i p (inl h) = omega (arith, part-within s l i p h)
-part-within s (choice l r) i p (inr (inl h)) = omega (arith, part-within (s + size l) r i p h)
-part-within s (choice l r) i p (inr (inr h)) = omega arith
-part-within s (sequence l r) i p (inl h) = omega (arith, part-within s l i p h)
-part-within s (sequence l r) i p (inr (inl h)) = omega (arith, part-within (s + size l) r i p h)
-part-within s (sequence l r) i p (inr (inr h)) = omega arith
-part-within s (repeat b lower upper) i p (inl h) = omega (arith, part-within s b i p h)
-part-within s (repeat b lower upper) i p (inr h) = omega arith
-
--- the parts of two children and of the node above them do not meet
-pair-part-unique : (s l r : ℕ) (e : Expr) {A B : ℕ → Expr → Type 0} → ((i : ℕ) (p : Expr) → A i p → (s ≤ i) × (i < s + l))
-    → ((i : ℕ) (p : Expr) → B i p → (s + l ≤ i) × (i < s + l + r)) → (i : ℕ) (p q : Expr) → (A i p → A i q → p ≡ q) → (B i p → B i q → p ≡ q)
-    → A i p ⊎ B i p ⊎ ((i ≡ s + l + r) × (p ≡ e)) → A i q ⊎ B i q ⊎ ((i ≡ s + l + r) × (q ≡ e)) → p ≡ q
-pair-part-unique s l r e a b i p q f g (inl x) (inl y) = f x y
-pair-part-unique s l r e a b i p q f g (inl x) (inr (inl y)) = absurd (omega (arith, a i p x, b i q y))
-pair-part-unique s l r e a b i p q f g (inl x) (inr (inr y)) = absurd (omega (arith, a i p x))
-pair-part-unique s l r e a b i p q f g (inr (inl x)) (inl y) = absurd (omega (arith, b i p x, a i q y))
-pair-part-unique s l r e a b i p q f g (inr (inl x)) (inr (inl y)) = g x y
-pair-part-unique s l r e a b i p q f g (inr (inl x)) (inr (inr y)) = absurd (omega (arith, b i p x))
-pair-part-unique s l r e a b i p q f g (inr (inr x)) (inl y) = absurd (omega (arith, a i q y))
-pair-part-unique s l r e a b i p q f g (inr (inr x)) (inr (inl y)) = absurd (omega (arith, b i q y))
-pair-part-unique s l r e a b i p q f g (inr (inr x)) (inr (inr y)) = x .1 ∙ sym (y .1)
-
--- a node has one part
-pub part-unique : (s : ℕ) (e : Expr) (i : ℕ) (p q : Expr) → Part s e i p → Part s e i q → p ≡ q
-part-unique s empty i p q a b = a .1 ∙ sym (b .1)
-part-unique s (event c) i p q a b = a .1 ∙ sym (b .1)
-part-unique s (choice l r) i p q a b =
-    pair-part-unique s (size l) (size r) (choice l r) {A = Part s l} {B = Part (s + size l) r} (part-within s l) (part-within (s + size l) r) i p q
-    (part-unique s l i p q) (part-unique (s + size l) r i p q) a b
-part-unique s (sequence l r) i p q a b =
-    pair-part-unique s (size l) (size r) (sequence l r) {A = Part s l} {B = Part (s + size l) r} (part-within s l) (part-within (s + size l) r) i p q
-    (part-unique s l i p q) (part-unique (s + size l) r i p q) a b
-part-unique s (repeat b lower upper) i p q (inl x) (inl y) = part-unique s b i p q x y
-part-unique s (repeat b lower upper) i p q (inl x) (inr y) = absurd (omega (arith, part-within s b i p x))
-part-unique s (repeat b lower upper) i p q (inr x) (inl y) = absurd (omega (arith, part-within s b i q y))
-part-unique s (repeat b lower upper) i p q (inr x) (inr y) = x .1 ∙ sym (y .1)
+use Rattle.meaning.proofs.Parts.{part-within, part-unique}
 
 -- ---- every item of a reading names a node of the part
 

@@ -1,6 +1,5 @@
 -- A file is refused in one way, or lists one expression and is not refused.
 use mathlib.Core.Path.{_≡_, refl, sym, ap₂, _∙_, subst}
-use mathlib.Core.Logic.{_⊎_, inl, inr}
 use mathlib.Core.List.{List}
 use Prim.Native.Nat.{ℕ, zero, suc, _+_, _-_, _≤_, _<_, zero-le}
 use native.Mathlib.Omega.{arith}
@@ -8,11 +7,12 @@ use native.Mathlib.Decide.{decLt}
 use native.Mathlib.Nat.{zero-add, suc-add, le-refl}
 use Rattle.meaning.specs.declared.Refusal.{Refusal}
 use Rattle.meaning.specs.declared.Refusal.the-variants.{Size, Letters, Measures, Record, Order, Repeats, Conflict}
-use Rattle.meaning.specs.Expr.{Expr, empty, event, choice, sequence, repeat, Bounded, root, size}
-use Rattle.meaning.specs.Node.{Node, InTable, InOrder, Stands, repeatsBelow, isRepeat}
-use Rattle.meaning.specs.Strong.{StronglyDeterministic}
+use Rattle.meaning.specs.Expr.{Expr, empty, event, choice, sequence, repeat, root, size}
+use Rattle.meaning.specs.Node.{Node, InTable, InOrder, Stands, repeatsBelow}
 use Rattle.meaning.specs.Conflict.{LowestConflict}
 use Rattle.meaning.specs.File.{Sized, Lettered, Measured, TableBelow, OrderBelow, Lists, WellFormed, Refused, by-size, by-letters, by-measures, by-record, by-order, by-root, by-repeats, Holds, Barred, malformed, conflicting, Admitted, count, nodeAt}
+use Rattle.meaning.specs.Numbers.{row}
+use Rattle.meaning.proofs.Parts.{part-within}
 use Rattle.meaning.proofs.Files.{root-size, stands-unique, holds-bounded}
 use Rattle.meaning.proofs.Diverge.{strong-no-conflict}
 use Rattle.meaning.proofs.Lowest.{lowest-unique}
@@ -239,3 +239,19 @@ barred-unique f r q (conflicting e i k c h l) (conflicting d j m b g o) =
     let same = lowest-unique e i k c j m b l (subst (λ (x : Expr). LowestConflict x j m b) (holds-unique f d e g h) o) in
     let p = same .0 in let x = same .1 in let y = same .2 in
     λ t. Conflict (p t) (x t) (y t)
+
+-- the node reported is one of the file's, of which there are at most 512
+refused-node-small : (f : List ℕ) (r : Refusal) → Refused f r → row r .node < 512
+refused-node-small f r (by-size n) = omega arith
+refused-node-small f r (by-letters s n) = omega arith
+refused-node-small f r (by-measures s l n) = omega arith
+refused-node-small f r (by-record i fr l below n) = omega (arith, fr .2 .1)
+refused-node-small f r (by-order i fr table l below n) = omega (arith, fr .2 .1)
+refused-node-small f r (by-root i fr table order n l) = omega (arith, fr .2 .1)
+refused-node-small f r (by-repeats e i w l a b) = omega (arith, w .framed .2 .1)
+
+pub barred-node-small : (f : List ℕ) (r : Refusal) → Barred f r → row r .node < 512
+barred-node-small f r (malformed b) = refused-node-small f r b
+barred-node-small f r (conflicting e i k c h l) =
+    let there = l .there in
+    omega (arith, part-within 0 e i (there .0) (there .1), h .formed .lists .1, h .formed .framed .2 .1, zero-add (size e))

@@ -1,6 +1,5 @@
 -- The procedure file: free text, node records, trailer; and the refusals 1 to 7.
 use mathlib.Core.Path.{_≡_}
-use mathlib.Core.Logic.{_≢_}
 use mathlib.Core.List.{List, [], _∷_}
 use Prim.Native.Nat.{ℕ, suc, _+_, _-_, _*_, _≤_, _<_}
 use lib.ListN.{length, take, drop}

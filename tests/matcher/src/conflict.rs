@@ -1,0 +1,167 @@
+//! The conflict that Judge names, from the sets as 01 words them. Nodes are
+//! looked at rising, so the parts below the one named hold no conflict, and
+//! there the automaton tells exactly what begins and what goes on.
+
+use crate::automaton::Automaton;
+use crate::tree::{Node, Symbol};
+
+/// A conflict with the numbers that Judge reports.
+#[derive(Clone, Copy, Debug, PartialEq, Eq)]
+pub struct Conflict {
+    pub node: Node,
+    pub kind: u32,
+    pub code: u32,
+}
+
+/// The sets of parts, by whichever way.
+pub trait Sets {
+    /// The codes that begin the part's words.
+    fn first(&self, part: Node) -> u64;
+    /// The codes b such that v and v b w are words, v not empty.
+    fn after(&self, part: Node) -> u64;
+}
+
+impl Sets for Automaton {
+    fn first(&self, part: Node) -> u64 {
+        codes(self, &self.first[part])
+    }
+
+    /// Some reachable place both ends the part and moves on inside it.
+    fn after(&self, part: Node) -> u64 {
+        let mut after = 0;
+        for &event in &self.last[part] {
+            let ends = self.acceptance(event, part);
+            let inside = self
+                .moves_from(Some(event))
+                .iter()
+                .filter(|step| self.tree.holds(part, step.by));
+            for step in inside {
+                let code = codes(self, &[step.to]);
+                if after & code == 0 && self.guard(Some(event), step).meets(&ends) {
+                    after |= code;
+                }
+            }
+        }
+        after
+    }
+}
+
+impl Sets for crate::words::Words<'_> {
+    fn first(&self, part: Node) -> u64 {
+        self.first(part)
+    }
+
+    fn after(&self, part: Node) -> u64 {
+        self.after(part)
+    }
+}
+
+fn codes(automaton: &Automaton, events: &[Node]) -> u64 {
+    let code = |&node: &Node| automaton.tree.code(node).expect("an event");
+    events
+        .iter()
+        .map(code)
+        .fold(0, |codes, code| codes | 1 << code)
+}
+
+/// The lowest conflict, its kind the lowest there, its code the lowest shared.
+pub fn lowest(tree: &crate::tree::Tree, sets: &dyn Sets) -> Option<Conflict> {
+    (0..tree.len()).find_map(|node| {
+        let (kind, shared) = match tree.symbol(node) {
+            Symbol::Empty | Symbol::Event(_) => return None,
+            Symbol::Choice => (
+                1,
+                sets.first(tree.left(node)) & sets.first(tree.right(node)),
+            ),
+            Symbol::Sequence => at_sequence(tree, node, sets),
+            Symbol::Repeat(bounds) if bounds.upper == Some(1) => return None,
+            Symbol::Repeat(_) => (4, sets.after(tree.body(node)) & sets.first(tree.body(node))),
+        };
+        let code = (0..64).find(|code| shared >> code & 1 == 1)?;
+        Some(Conflict { node, kind, code })
+    })
+}
+
+fn at_sequence(tree: &crate::tree::Tree, node: Node, sets: &dyn Sets) -> (u32, u64) {
+    let (left, right) = (tree.left(node), tree.right(node));
+    let onto = sets.first(right);
+    let skipped = if tree.nullable(left) {
+        sets.first(left) & onto
+    } else {
+        0
+    };
+    if skipped != 0 {
+        (2, skipped)
+    } else {
+        (3, sets.after(left) & onto)
+    }
+}
+
+#[cfg(test)]
+mod tests {
+    use super::{lowest, Conflict};
+    use crate::automaton::Automaton;
+    use crate::parse::tree;
+    use crate::words::Words;
+    use std::rc::Rc;
+
+    fn named(text: &str) -> Option<(usize, u32, u32)> {
+        let tree = tree(text);
+        let told = |conflict: Conflict| (conflict.node, conflict.kind, conflict.code);
+        let by_automaton = lowest(&tree, &Automaton::new(Rc::new(tree.clone()))).map(told);
+        let by_words = lowest(&tree, &Words::new(&tree)).map(told);
+        assert_eq!(by_automaton, by_words, "{text}");
+        by_automaton
+    }
+
+    #[test]
+    fn bench_conflicts() {
+        assert_eq!(named("(a{1,2}){3,4}"), Some((2, 4, 0)));
+        assert_eq!(named("((a+e)(b+e)){0,2}"), Some((7, 4, 1)));
+        assert_eq!(named("a{0,2}a"), Some((3, 2, 0)));
+        assert_eq!(named("a{2,3}a"), Some((3, 3, 0)));
+        assert_eq!(named("(a{2,3}(b+e)){0,}"), Some((6, 4, 0)));
+        assert_eq!(named("a+ab"), Some((4, 1, 0)));
+    }
+
+    #[test]
+    fn bench_cases_without() {
+        for text in [
+            "a{2,4}",
+            "(a{0,1}){0,3}",
+            "a{2,2}a",
+            "(e b{0,1}){0,2}",
+            "(a+e){3,3}",
+            "(ab){1,2}",
+            "e",
+            "(a{2,2}){0,}",
+        ] {
+            assert_eq!(named(text), None, "{text}");
+        }
+    }
+
+    /// The lowest kind goes before the lowest code.
+    #[test]
+    fn kind_goes_before_code() {
+        assert_eq!(named("(#5 #1{0,1}){0,1}(#5+#1)"), Some((8, 2, 5)));
+    }
+
+    /// Readings are lists of items, not derivations.
+    #[test]
+    fn several_ways_to_nothing_are_no_conflict() {
+        assert_eq!(named("e+e"), None);
+        assert_eq!(named("a{0,1}+b{0,1}"), None);
+    }
+
+    /// Source 001, lemma 2, on the expressions of its section 2.
+    #[test]
+    fn source_001_lemma_2() {
+        assert_eq!(named("(a{1,2}){1,2}"), Some((2, 4, 0)));
+        assert_eq!(named("(a+b){6,7}ab(a+b)"), Some((5, 3, 0)));
+        assert_eq!(named("(t(x+e)){0,}l"), None);
+        assert_eq!(
+            named("((t(t+e))(e+(abc))){2,3}").map(|told| told.1),
+            Some(4)
+        );
+    }
+}

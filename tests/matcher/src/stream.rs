@@ -1,0 +1,126 @@
+//! Calls as a stream of bytes, and what they give as lines of text.
+
+use crate::calls::{Call, Outcome};
+use std::fmt::Write as _;
+
+/// The longest slice that a stream may hold.
+pub const MOST_SLICE: usize = 1_048_576;
+
+/// A call's letter and its slices, in the order of the stream.
+fn slices(call: &Call) -> (u8, Vec<&[u8]>) {
+    match call {
+        Call::Judge { file } => (b'J', vec![file]),
+        Call::Follow {
+            file,
+            state,
+            events,
+        } => (b'F', vec![file, state, events]),
+        Call::Write { file, run, space } => (b'W', vec![file, run, space]),
+        Call::Check { file, record } => (b'C', vec![file, record]),
+        Call::Prompt { file, state } => (b'P', vec![file, state]),
+    }
+}
+
+/// The bytes of one call.
+pub fn bytes(call: &Call) -> Vec<u8> {
+    let (letter, slices) = slices(call);
+    let mut bytes = vec![letter];
+    for slice in slices {
+        assert!(slice.len() <= MOST_SLICE, "a slice too long for a stream");
+        bytes.extend((slice.len() as u32).to_le_bytes());
+        bytes.extend(slice);
+    }
+    bytes
+}
+
+/// The line of one outcome, line feed included.
+pub fn line(outcome: &Outcome) -> String {
+    match outcome {
+        Outcome::Judge {
+            answer,
+            node,
+            kind,
+            code,
+        } => format!("J {answer} {node} {kind} {code}\n"),
+        Outcome::Follow {
+            answer,
+            taken,
+            verdict,
+            state,
+        } => {
+            format!("F {answer} {taken} {verdict} {}\n", hex(state))
+        }
+        Outcome::Write {
+            answer,
+            length,
+            space,
+        } => format!("W {answer} {length} {}\n", hex(space)),
+        Outcome::Check { answer, yes } => format!("C {answer} {yes}\n"),
+        Outcome::Prompt { answer, set } => format!("P {answer} {set}\n"),
+    }
+}
+
+fn hex(bytes: &[u8]) -> String {
+    if bytes.is_empty() {
+        return "-".to_string();
+    }
+    bytes.iter().fold(String::new(), |mut text, byte| {
+        write!(text, "{byte:02x}").expect("text takes text");
+        text
+    })
+}
+
+/// What each field of a line tells.
+pub fn field_names(letter: &str) -> &'static [&'static str] {
+    match letter {
+        "J" => &["call", "answer", "node", "kind", "code"],
+        "F" => &["call", "answer", "taken", "verdict", "state"],
+        "W" => &["call", "answer", "length", "space"],
+        "C" => &["call", "answer", "yes"],
+        "P" => &["call", "answer", "set"],
+        _ => &[],
+    }
+}
+
+#[cfg(test)]
+mod tests {
+    use super::{bytes, line};
+    use crate::calls::{Call, Outcome};
+
+    #[test]
+    fn a_call_is_a_letter_and_counted_slices() {
+        let call = Call::Follow {
+            file: vec![7],
+            state: vec![],
+            events: vec![1, 2],
+        };
+        assert_eq!(
+            bytes(&call),
+            [b'F', 1, 0, 0, 0, 7, 0, 0, 0, 0, 2, 0, 0, 0, 1, 2]
+        );
+    }
+
+    #[test]
+    fn an_outcome_is_a_line() {
+        let judged = Outcome::Judge {
+            answer: 7,
+            node: 2,
+            kind: 4,
+            code: 0,
+        };
+        assert_eq!(line(&judged), "J 7 2 4 0\n");
+        let written = Outcome::Write {
+            answer: 0,
+            length: 1,
+            space: vec![1, 255],
+        };
+        assert_eq!(line(&written), "W 0 1 01ff\n");
+        let refused = Outcome::Follow {
+            answer: 8,
+            taken: 0,
+            verdict: 0,
+            state: vec![],
+        };
+        assert_eq!(line(&refused), "F 8 0 0 -\n");
+    }
+}
