@@ -1,12 +1,12 @@
 -- General facts on numbers, tests, lists and sets of lists.
 use mathlib.Core.Path.{_≡_, refl, sym, ap, _∙_, subst}
 use mathlib.Core.Logic.{_↔_, _⊎_, inl, inr, ⊎-elim}
-use mathlib.Core.Bool.{Bool, true, false, _||_, So, false≢true}
+use mathlib.Core.Bool.{Bool, true, false, not, _||_, So, false≢true}
 use mathlib.Core.List.{List, [], _∷_, _++_, append-assoc, append-nil, append-cancel-right, head-eq-of-cons-eq, tail-eq-of-cons-eq}
 use Prim.Native.Nat.{ℕ, zero, suc, _+_, _-_, _≤_, _<_, max}
 use native.Mathlib.Decide.{decLt}
 use native.Mathlib.Omega.{arith}
-use lib.Dec.{T, eqb, eqb→eq, eqb-refl}
+use lib.Dec.{T, leb, eqb, leb→le, le→leb, nleb→lt, eqb→eq, eqb-refl}
 use lib.ListN.{length, take, length-append}
 use Rattle.meaning.specs.Expr.{Upper, upto, endless, Within}
 use Rattle.meaning.specs.Lists.{Or, left, right, Cat, cat, Power, none, more}
@@ -128,7 +128,7 @@ module _ {A : Type 0} where
   some-power x p zero = ([], none)
   some-power x p (suc n) = let t = some-power x p n in (x ++ t .0, more n x (t .0) p (t .1))
 
--- ---- equality as a test
+-- ---- equality and order as tests
 
 -- a test that does not pass is false, and one that passes is true
 pub test-false : (b : Bool) → ¬ T b → b ≡ false
@@ -165,6 +165,20 @@ same-or-other m n = tested (eqb m n) (eqb→eq m n)
     tested : (b : Bool) → (T b → m ≡ n) → (m ≡ n) ⊎ (b ≡ false)
     tested true h = inl (h tt)
     tested false h = inr refl
+
+-- the test of equality passes exactly if the numbers are equal
+pub so-eqb : (m n : ℕ) → So (eqb m n) ↔ (m ≡ n)
+so-eqb m n = (λ h. eqb→eq m n (subst T (sym h) tt), λ h. subst (λ (k : ℕ). So (eqb m k)) h (eqb-same m))
+
+-- the test of order passes exactly if the order holds, and fails exactly if it is the other way
+pub so-leb : (m n : ℕ) → So (leb m n) ↔ (m ≤ n)
+so-leb m n = (λ h. leb→le m n (subst T (sym h) tt), λ h. test-true (leb m n) (le→leb m n h))
+
+pub not-leb : (m n : ℕ) → (leb m n ≡ false) ↔ (n < m)
+not-leb m n = (
+  λ h. nleb→lt m n (subst (λ b. T (not b)) (sym h) tt),
+  λ h. test-false (leb m n) (λ t. let e = leb→le m n t in omega arith),
+)
 
 -- ---- equal lists
 

@@ -35,4 +35,6 @@ pub mod Search
 pub mod Followed
 pub mod Bench
 pub mod Errors
+pub mod Directly
 pub mod Ways
+pub mod Loosened
