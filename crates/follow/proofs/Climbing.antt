@@ -23,7 +23,7 @@ use Rattle.follow.specs.declared.climb.Look.the-variants.{Turns, On, Sto
 use Rattle.follow.specs.declared.climb.Turn.{Turn}
 use Rattle.follow.specs.declared.climb.Turn.the-variants.{At, Ends, Stuck}
 use Rattle.follow.specs.Plan.{aboveAt, beginsAt, startAt, rankAt, emptyAt, repeats, bit, Own, Planned, startsOf}
-use Rattle.follow.specs.Counts.{Clear, Held, Sets, done, one, other, Cleared, oneMore, raised, Turned}
+use Rattle.follow.specs.Counts.{Clear, Held, Sets, done, next, Cleared, oneMore, raised, Turned}
 use Rattle.follow.specs.Climb.{moreOf, lookInto, lookRepeat, lookOf, Climbs, past, turns, stops, on}
 use Rattle.follow.proofs.Beginnings.{Starts, does, does-not, Target, starts-by-test}
 use Rattle.follow.proofs.Counting.{Beside, Entered, clear-same, held-same, entered, rank-of-repeat, repeats-past}
@@ -170,8 +170,7 @@ module _ (nodes plan counts : List ℕ) (n q : ℕ) where
 
 sets-done : {nodes plan : List ℕ} {x y : ℕ} {c z : List ℕ} → x ≤ y → Sets nodes plan x y c z → c ≡ z
 sets-done h (done l) = refl
-sets-done h (one l m w) = absurd (omega arith)
-sets-done h (other l m w) = absurd (omega arith)
+sets-done h (next l w) = absurd (omega arith)
 
 module _
   (nodes plan counts : List ℕ)
@@ -192,9 +191,9 @@ module _
       let right = repeats-past (held nodes) (s + size l) r (st .1) in
       let from : rankAt plan (startAt plan i) ≡ k = ap (rankAt plan) (own s (sequence l r) st (omega arith) .starts) ∙ ranks s (omega arith) ∙ sym e in
       let to : rankAt plan i ≡ k + repeats l + repeats r = ranks i fit ∙ right ∙ (omega arith) in
-      let kept : raised nodes plan i counts (w .0) ≡ w .0 = ap
+      let kept : raised nodes plan i (w .0) ≡ w .0 = ap
       (λ (v : Node). cond (eqb (kindOf v) 4)
-      (set (w .0) (rankAt plan i) (oneMore (emptyAt plan (i - 1)) (lowerOf v) (upperOf v) (getD counts (rankAt plan i) 0))) (w .0))
+      (set (w .0) (rankAt plan i) (oneMore (emptyAt plan (i - 1)) (lowerOf v) (upperOf v) (getD (w .0) (rankAt plan i) 0))) (w .0))
       (st .2) in
       let sets = subst (λ (c : List ℕ). Sets nodes plan i (aboveAt plan q) c z) kept (w .2) in
       let sets′ = subst (λ (y : ℕ). Sets nodes plan i (aboveAt plan y) (w .0) z) (sym m) sets in
@@ -232,20 +231,20 @@ module _
         ap (λ (y : ℕ). eqb (emptyAt plan y) 1) before ∙ ap (λ (y : ℕ). eqb y 1) (own s b (st .0) (omega arith) .empties)
         ∙ bit-one (nullable b)
 
-    raises : (p : ℕ) (z : List ℕ) → getD counts (k + repeats b) 0 ≡ stop (low (nullable b) lower) upper (suc p) → another p upper ≡ true
-        → raised nodes plan (s + size b) counts z ≡ set z (k + repeats b) (stop (low (nullable b) lower) upper (suc (suc p)))
+    raises : (p : ℕ) (z : List ℕ) → getD z (k + repeats b) 0 ≡ stop (low (nullable b) lower) upper (suc p) → another p upper ≡ true
+        → raised nodes plan (s + size b) z ≡ set z (k + repeats b) (stop (low (nullable b) lower) upper (suc (suc p)))
     unfolding u
     raises p z held′ more =
-        let c = getD counts (k + repeats b) 0 in
+        let c = getD z (k + repeats b) 0 in
         let i = s + size b in
         let value : oneMore (emptyAt plan (i - 1)) lower u c ≡ stop (low (nullable b) lower) upper (suc (suc p)) =
         ap (λ (v : Bool). cond (eqb u 65535) (min (c + 1) (max 1 (cond v 0 lower))) (cond (ltb c u) (c + 1) c)) empties
         ∙ one-more-law p lower u c upper (nullable b) (eqb u 65535) (st .1 .2) held′ more in
         ap
             (λ (m : Node). cond (eqb (kindOf m) 4)
-            (set z (rankAt plan i) (oneMore (emptyAt plan (i - 1)) (lowerOf m) (upperOf m) (getD counts (rankAt plan i) 0))) z)
+            (set z (rankAt plan i) (oneMore (emptyAt plan (i - 1)) (lowerOf m) (upperOf m) (getD z (rankAt plan i) 0))) z)
             (st .1 .1)
-        ∙ ap (λ (j : ℕ). set z j (oneMore (emptyAt plan (i - 1)) lower u (getD counts j 0))) rank
+        ∙ ap (λ (j : ℕ). set z j (oneMore (emptyAt plan (i - 1)) lower u (getD z j 0))) rank
         ∙ ap (set z (k + repeats b)) value
 
     looks : (p : ℕ) → getD counts (k + repeats b) 0 ≡ stop (low (nullable b) lower) upper (suc p)
@@ -280,7 +279,7 @@ module _
         ap (rankAt plan) (own s (repeat b lower upper) st (omega arith) .starts) ∙ ranks s (omega arith) ∙ sym e in
         let d = set (w .0) (k + repeats b) (stop (low (nullable b) lower) upper (suc (suc p))) in
         let other : (j : ℕ) → (j ≡ k + repeats b → ⊥) → getD d j 0 ≡ getD (w .0) j 0 = λ j o. getD-set-other (w .0) (k + repeats b) j _ 0 o in
-        let sets = subst (λ (c : List ℕ). Sets nodes plan i (aboveAt plan q) c z) (raises p (w .0) held′ more) (w .2) in
+        let sets = subst (λ (c : List ℕ). Sets nodes plan i (aboveAt plan q) c z) (raises p (w .0) (w .1 .kept (k + repeats b) (inr (omega arith)) ∙ held′) more) (w .2) in
         let sets′ = subst (λ (y : ℕ). Sets nodes plan i (aboveAt plan y) d z) (sym m) sets in
         let v =
         entered nodes plan n i ranks some s k b i h t d z (st .0) (pl .1) (omega arith) (omega arith) e can

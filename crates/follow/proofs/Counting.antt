@@ -1,11 +1,13 @@
 -- The counters of a part lie together, and entering a part sets those of the repeats around the event. Assumes nothing.
 use mathlib.Core.Path.{_≡_, refl, sym, ap, subst, _∙_}
 use mathlib.Core.Logic.{_⊎_, inl, inr, ⊎-elim}
-use mathlib.Core.Bool.{cond}
+use mathlib.Core.Bool.{Bool, cond}
 use mathlib.Core.List.{List}
 use Prim.Native.Nat.{ℕ, zero, suc, _+_, _-_, _≤_, _<_}
 use native.Mathlib.Nat.{le-refl}
 use native.Mathlib.Omega.{arith}
+use borrow.Author.Tests.{eq-eqb, ne-eqb}
+use lib.Dec.{eqb}
 use lib.ListN.{length, getD, set, length-set}
 use lib.Seq.{getD-set-same, getD-set-other}
 use Rattle.meaning.specs.Expr.{Expr, empty, event, choice, sequence, repeat, Upper, upto, endless, size, root}
@@ -15,7 +17,7 @@ use Rattle.meaning.specs.State.{stop}
 use Rattle.meaning.proofs.Place.{Place, nodeOf, CanStart}
 use Rattle.procedure.specs.Entry.{held, kindOf}
 use Rattle.follow.specs.Plan.{aboveAt, rankAt, repeats, Planned}
-use Rattle.follow.specs.Counts.{Clear, Held, Sets, done, one, other}
+use Rattle.follow.specs.Counts.{Clear, Held, marked, Sets, done, next}
 
 -- ---- the ranks of a part's repeats
 
@@ -99,17 +101,19 @@ pub record Entered (nodes plan : List ℕ) (x a k : ℕ) (e : Expr) (t : Place e
   pub beside : Beside c now k (repeats e)
   pub long : length now ≡ 32
 
+sets-next : {nodes plan : List ℕ} {x y : ℕ} {c z : List ℕ} → y < x → Sets nodes plan x y c z → Sets nodes plan x (aboveAt plan y) (marked nodes plan y c) z
+sets-next h (done l) = absurd (omega arith)
+sets-next h (next l w) = w
+
 sets-repeat : {nodes plan : List ℕ} {x y : ℕ} {c z : List ℕ} → y < x → kindOf (held nodes y) ≡ 4 → Sets nodes plan x y c z
     → Sets nodes plan x (aboveAt plan y) (set c (rankAt plan y) 1) z
-sets-repeat h k (done l) = absurd (omega arith)
-sets-repeat h k (one l m w) = w
-sets-repeat h k (other l m w) = absurd (m k)
+sets-repeat {nodes} {plan} {x} {y} {c} {z} h k w =
+    subst (λ (b : Bool). Sets nodes plan x (aboveAt plan y) (cond b (set c (rankAt plan y) 1) c) z) (eq-eqb (kindOf (held nodes y)) 4 k) (sets-next h w)
 
 sets-other : {nodes plan : List ℕ} {x y : ℕ} {c z : List ℕ} → y < x → (kindOf (held nodes y) ≡ 4 → ⊥) → Sets nodes plan x y c z
     → Sets nodes plan x (aboveAt plan y) c z
-sets-other h k (done l) = absurd (omega arith)
-sets-other h k (one l m w) = absurd (k m)
-sets-other h k (other l m w) = w
+sets-other {nodes} {plan} {x} {y} {c} {z} h k w =
+    subst (λ (b : Bool). Sets nodes plan x (aboveAt plan y) (cond b (set c (rankAt plan y) 1) c) z) (ne-eqb (kindOf (held nodes y)) 4 k) (sets-next h w)
 
 module _ {nodes plan : List ℕ} {x a k : ℕ} (l r : Expr) {c z : List ℕ} where
   -- one child is entered, and the counters of the other stay 0

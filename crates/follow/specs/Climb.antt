@@ -17,6 +17,10 @@ use Rattle.follow.specs.Plan.{aboveAt, rankAt, emptyAt, startsOf}
 abbrev pub moreOf : Node → ℕ → Bool
 moreOf m c = eqb (upperOf m) 65535 || ltb c (upperOf m)
 
+-- c blocks of a repeat are enough, of whose body y is the node
+abbrev pub enoughOf : Node → List ℕ → ℕ → ℕ → Bool
+enoughOf m plan c y = eqb (emptyAt plan y) 1 || leb (lowerOf m) c
+
 -- at a sequence, of whose right part y is the node
 abbrev pub lookInto : List ℕ → ℕ → ℕ → Look
 lookInto plan y q = cond (startsOf plan y q) Turns (cond (eqb (emptyAt plan y) 1) On Stops)
@@ -24,7 +28,7 @@ lookInto plan y q = cond (startsOf plan y q) Turns (cond (eqb (emptyAt plan y) 1
 -- at a repeat with c blocks begun, of whose body y is the node
 abbrev pub lookRepeat : Node → List ℕ → ℕ → ℕ → ℕ → Look
 lookRepeat m plan c y q =
-    cond (startsOf plan y q && moreOf m c) Turns (cond (eqb (emptyAt plan y) 1 || leb (lowerOf m) c) On Stops)
+    cond (startsOf plan y q && moreOf m c) Turns (cond (enoughOf m plan c y) On Stops)
 
 -- at node x
 abbrev pub lookOf : List ℕ → List ℕ → List ℕ → ℕ → ℕ → Look

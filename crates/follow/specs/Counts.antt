@@ -32,14 +32,14 @@ Held counts k (repeat b lower upper) p =
 abbrev pub Marked : List ℕ → (e : Expr) → Place e → Type 0
 Marked counts e p = Held counts 0 e p × ((j : ℕ) → repeats e ≤ j → getD counts j 0 ≡ 0)
 
+-- where node y is a repeat, its counter is made 1
+abbrev pub marked : List ℕ → List ℕ → ℕ → List ℕ → List ℕ
+marked nodes plan y c = cond (eqb (kindOf (held nodes y)) 4) (set c (rankAt plan y) 1) c
+
 -- upward from node y, each repeat below node x gets the counter 1
 pub data Sets (nodes plan : List ℕ) (x : ℕ) : ℕ → List ℕ → List ℕ → Type 0 where
   done : {y : ℕ} {c : List ℕ} → x ≤ y → Sets nodes plan x y c c
-  one : {y : ℕ} {c d : List ℕ} → y < x → kindOf (held nodes y) ≡ 4
-      → Sets nodes plan x (aboveAt plan y) (set c (rankAt plan y) 1) d
-      → Sets nodes plan x y c d
-  other : {y : ℕ} {c d : List ℕ} → y < x → (kindOf (held nodes y) ≡ 4 → ⊥) → Sets nodes plan x (aboveAt plan y) c d
-      → Sets nodes plan x y c d
+  next : {y : ℕ} {c d : List ℕ} → y < x → Sets nodes plan x (aboveAt plan y) (marked nodes plan y c) d → Sets nodes plan x y c d
 
 -- the counters from rank `from` on and before rank `to` are made 0
 pub record Cleared (from to : ℕ) (c d : List ℕ) : Type 0 where
@@ -52,14 +52,14 @@ abbrev pub oneMore : ℕ → ℕ → ℕ → ℕ → ℕ
 oneMore empties lower upper c =
     cond (eqb upper 65535) (min (c + 1) (max 1 (cond (eqb empties 1) 0 lower))) (cond (ltb c upper) (c + 1) c)
 
--- where node x is a repeat, its counter in c is raised by one more block in d
-abbrev pub raised : List ℕ → List ℕ → ℕ → List ℕ → List ℕ → List ℕ
-raised nodes plan x c d =
+-- where node x is a repeat, its counter is raised by one more block
+abbrev pub raised : List ℕ → List ℕ → ℕ → List ℕ → List ℕ
+raised nodes plan x c =
     cond (eqb (kindOf (held nodes x)) 4)
-    (set d (rankAt plan x) (oneMore (emptyAt plan (x - 1)) (lowerOf (held nodes x)) (upperOf (held nodes x)) (getD c (rankAt plan x) 0)))
-    d
+    (set c (rankAt plan x) (oneMore (emptyAt plan (x - 1)) (lowerOf (held nodes x)) (upperOf (held nodes x)) (getD c (rankAt plan x) 0)))
+    c
 
 -- the counters after a turn at node x towards event node q
 abbrev pub Turned : List ℕ → List ℕ → ℕ → ℕ → List ℕ → List ℕ → Type 0
 Turned nodes plan x q c d =
-    (z : List ℕ) × Cleared (rankAt plan (startAt plan x)) (rankAt plan x) c z × Sets nodes plan x (aboveAt plan q) (raised nodes plan x c z) d
+    (z : List ℕ) × Cleared (rankAt plan (startAt plan x)) (rankAt plan x) c z × Sets nodes plan x (aboveAt plan q) (raised nodes plan x z) d

@@ -81,6 +81,13 @@ startsOf plan y q = leb (startAt plan y) q && (leb q y && leb y (beginsAt plan q
 abbrev pub Ranked : List ℕ → List ℕ → ℕ → Type 0
 Ranked nodes plan x = kindOf (held nodes x) ≡ 4 → rankAt plan x < 32
 
--- the plan leads upward from each of the n nodes, and each repeat has its counter
+-- the plan leads upward from node i, to a part that begins no later, and to its counters
+pub record Leads (nodes plan : List ℕ) (i : ℕ) : Type 0 where
+  pub up : i < aboveAt plan i
+  pub counted : Ranked nodes plan i
+  pub from : startAt plan i ≤ i
+  pub few : rankAt plan i ≤ 32
+
+-- so it does from each of the n nodes
 abbrev pub Rises : List ℕ → List ℕ → ℕ → Type 0
-Rises nodes plan n = (i : ℕ) → i < n → (i < aboveAt plan i) × Ranked nodes plan i
+Rises nodes plan n = (i : ℕ) → i < n → Leads nodes plan i

@@ -1,5 +1,5 @@
 -- The numbers in an entry of the plan. A model of our code, and no promise.
-use Prim.Native.Nat.{ℕ, _/_, _%_}
+use Prim.Native.Nat.{ℕ, _+_, _-_, _*_, _/_, _%_}
 
 -- the next node above that matters
 unfoldable pub aboveIn : ℕ → ℕ
@@ -19,4 +19,8 @@ rankIn x = x / 1073741824 % 64
 
 -- 1 where the part has the empty word, else 0
 unfoldable pub emptyIn : ℕ → ℕ
-emptyIn x = x / 68719476736
+emptyIn x = x / 68719476736 % 2
+
+-- the entry with these two numbers, and the others as they were
+unfoldable pub toldIn : ℕ → ℕ → ℕ → ℕ
+toldIn x above begins = x - x % 1048576 + above + 1024 * begins

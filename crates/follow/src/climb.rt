@@ -1,10 +1,11 @@
 // The way up from an event node: at each node that matters it turns towards another event node, goes on, or is stuck.
 ghost use mathlib.Core.Path.{_≡_};
+ghost use mathlib.Core.Bool.{_&&_};
 ghost use Prim.Native.Nat.{_+_, _≤_, _<_};
 ghost use lib.ListN.{getD};
 ghost use Rattle.procedure.specs.Entry.{held, unpacked};
 ghost use Rattle.follow.specs.Plan.{startsOf, aboveAt, rankAt, Rises, Ranked};
-ghost use Rattle.follow.specs.Climb.{moreOf, lookInto, lookRepeat, lookOf, Climbs};
+ghost use Rattle.follow.specs.Climb.{moreOf, enoughOf, lookInto, lookRepeat, lookOf, Climbs};
 use crate::table;
 use procedure::entry;
 
@@ -66,20 +67,37 @@ fn look_into(plan: &[u64; 512], y: usize, q: usize) -> Look
     Look::Stops
 }
 
+// Whether the repeat with c blocks begun may begin one more with q; y is the node of its body.
+fn again(node: u64, plan: &[u64; 512], c: u16, y: usize, q: usize) -> bool
+    requires { ⌜ y < 512 ⌝ }
+    ensures { λ r. ⌜ r ≡ startsOf (now (plan .entry)) y q && moreOf (unpacked node) c ⌝ }
+{
+    if starts(plan, y, q) {
+        return more(node, c);
+    }
+    false
+}
+
+// Whether c blocks are enough; y is the node of the body.
+fn enough(node: u64, plan: &[u64; 512], c: u16, y: usize) -> bool
+    requires { ⌜ y < 512 ⌝ }
+    ensures { λ r. ⌜ r ≡ enoughOf (unpacked node) (now (plan .entry)) c y ⌝ }
+{
+    if table::empty_of(plan[y]) == 1 {
+        return true;
+    }
+    entry::lower_of(node) <= c
+}
+
 // At a repeat with c blocks begun, of whose body y is the node.
 fn look_repeat(node: u64, plan: &[u64; 512], c: u16, y: usize, q: usize) -> Look
     requires { ⌜ y < 512 ⌝ }
     ensures { λ r. ⌜ r ≡ lookRepeat (unpacked node) (now (plan .entry)) c y q ⌝ }
 {
-    if starts(plan, y, q) {
-        if more(node, c) {
-            return Look::Turns;
-        }
+    if again(node, plan, c, y, q) {
+        return Look::Turns;
     }
-    if table::empty_of(plan[y]) == 1 {
-        return Look::On;
-    }
-    if entry::lower_of(node) <= c {
+    if enough(node, plan, c, y) {
         return Look::On;
     }
     Look::Stops

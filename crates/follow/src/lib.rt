@@ -1,3 +1,4 @@
 // Runs against a procedure: the step from where a run stands to an event node.
 mod table; // table.rt: the numbers of a plan's entry
 mod climb; // climb.rt: the way up from an event node
+mod turn; // turn.rt: the counters after a turn

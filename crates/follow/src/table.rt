@@ -1,7 +1,7 @@
 // An entry of the plan packs five numbers of a node into one word. Each function hands one out, or makes an entry.
 ghost use mathlib.Core.Path.{_≡_};
-ghost use Prim.Native.Nat.{_+_, _*_, _/_, _<_, _≤_};
-ghost use Rattle.follow.specs.Table.{aboveIn, beginsIn, startIn, rankIn, emptyIn};
+ghost use Prim.Native.Nat.{_<_};
+ghost use Rattle.follow.specs.Table.{aboveIn, beginsIn, startIn, rankIn, emptyIn, toldIn};
 
 // The next node above that matters on the way up; past the last node where there is none.
 pub fn above_of(entry: u64) -> usize
@@ -38,8 +38,9 @@ pub fn rank_of(entry: u64) -> usize
 // 1 where the part has the empty word, else 0.
 pub fn empty_of(entry: u64) -> u64
     ensures { λ r. ⌜ r ≡ emptyIn entry ⌝ }
+    ensures { λ r. ⌜ r < 2 ⌝ }
 {
-    entry / 68719476736
+    entry / 68719476736 % 2
 }
 
 // An entry that says nothing yet of the nodes above.
@@ -58,9 +59,7 @@ pub fn entry_of(start: usize, rank: usize, empty: u64) -> u64
 pub fn told(entry: u64, above: usize, begins: usize) -> u64
     requires { ⌜ above < 1024 ⌝ }
     requires { ⌜ begins < 1024 ⌝ }
-    ensures { λ r. ⌜ aboveIn r ≡ above ⌝ }
-    ensures { λ r. ⌜ beginsIn r ≡ begins ⌝ }
-    ensures { λ r. ⌜ r / 1048576 ≡ entry / 1048576 ⌝ }
+    ensures { λ r. ⌜ r ≡ toldIn entry above begins ⌝ }
 {
     entry - entry % 1048576 + (above as u64) + 1024 * (begins as u64)
 }

@@ -1,3 +1,6 @@
+use Rattle.follow.proofs.Tests.{taken, left}
+use mathlib.Core.Path.{refl, sym, _∙_}
+use borrow.Author.Tests.{eq-eqb, ne-eqb}
 use borrow.Author.Needs.{needs}
 use Rattle.follow.proofs.climb.look_into.Statement.{statement}
 use Rattle.follow.proofs.climb.look_into.Tie as tie
@@ -6,33 +9,33 @@ use Rattle.follow.proofs.climb.look_into.Lts as lts
 use Rattle.follow.proofs.climb.starts.Reads as starts-reads
 use Rattle.follow.proofs.table.empty_of.Reads as empty-of-reads
 
--- src/climb.rt:60:8
+-- src/climb.rt:61:8
 starts-requires : tie.Need-starts-requires
 starts-requires c κs = search needs
 
--- src/climb.rt:61:9
+-- src/climb.rt:62:9
 returns : tie.Need-returns
-returns c = ?
+returns c = taken _ _ _ (sym (c .before .starts .ensures) ∙ c .if1 .taken)
 
--- src/climb.rt:63:24
+-- src/climb.rt:64:24
 mul-empty-of : tie.Need-mul-empty-of
 mul-empty-of c = search needs
 
--- src/climb.rt:63:24
+-- src/climb.rt:64:24
 element-copy-out-empty-of : tie.Need-element-copy-out-empty-of
 element-copy-out-empty-of c = search needs
 
--- src/climb.rt:63:8
+-- src/climb.rt:64:8
 empty-of-requires : tie.Need-empty-of-requires
 empty-of-requires c κs = search needs
 
--- src/climb.rt:64:9
+-- src/climb.rt:65:9
 returns-2 : tie.Need-returns-2
-returns-2 c = ?
+returns-2 c = left _ _ _ _ (sym (c .before .before .before .before .starts .ensures) ∙ c .before .before .before .if1 .left) (taken _ _ _ (eq-eqb _ _ (sym (c .before .empty-of .ensures .0) ∙ c .if2 .taken)))
 
--- src/climb.rt:56:1
+-- src/climb.rt:57:1
 returns-3 : tie.Need-returns-3
-returns-3 c = ?
+returns-3 c = left _ _ _ _ (sym (c .before .before .before .before .starts .ensures) ∙ c .before .before .before .if1 .left) (left _ _ _ _ (ne-eqb _ _ (λ e. c .if2 .left (c .before .empty-of .ensures .0 ∙ e))) refl)
 
 pub look-into-spec : {M : Type 1} → statement M
 look-into-spec =

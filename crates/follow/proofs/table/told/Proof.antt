@@ -1,6 +1,6 @@
 -- `follow::table::told` meets its contract. Assumes nothing.
 use borrow.Author.Needs.{needs}
-use Rattle.follow.specs.Table.{aboveIn, beginsIn}
+use Rattle.follow.specs.Table.{toldIn}
 use Rattle.follow.proofs.table.told.Statement.{statement}
 use Rattle.follow.proofs.table.told.Tie as tie
 
@@ -17,7 +17,7 @@ add-result-2 : tie.Need-add-result-2
 add-result-2 c = search needs
 
 returns : tie.Need-returns
-unfolding aboveIn beginsIn
+unfolding toldIn
 returns c = search needs
 
 pub told-spec : {M : Type 1} → statement M

@@ -1,0 +1,28 @@
+use Rattle.follow.proofs.Tests.{both-first, both-second}
+use mathlib.Core.Path.{sym, _∙_}
+use borrow.Author.Needs.{needs}
+use Rattle.follow.proofs.climb.again.Statement.{statement}
+use Rattle.follow.proofs.climb.again.Tie as tie
+use Rattle.follow.proofs.climb.again.Reads as reads
+use Rattle.follow.proofs.climb.again.Lts as lts
+use Rattle.follow.proofs.climb.more.Reads as more-reads
+use Rattle.follow.proofs.climb.starts.Reads as starts-reads
+
+-- src/climb.rt:75:8
+starts-requires : tie.Need-starts-requires
+starts-requires c κs = search needs
+
+-- src/climb.rt:76:9
+more-requires : tie.Need-more-requires
+more-requires c κs = search needs
+
+-- src/climb.rt:76:9
+returns : tie.Need-returns
+returns c = both-second _ _ _ (sym (c .before .before .starts .ensures) ∙ c .before .if1 .taken) (c .more .ensures)
+
+-- src/climb.rt:71:1
+returns-2 : tie.Need-returns-2
+returns-2 c = both-first _ _ (sym (c .before .starts .ensures) ∙ c .if1 .left)
+
+pub again-spec : {M : Type 1} → statement M
+again-spec = tie.close (tie.spec starts-requires more-requires returns returns-2)
