@@ -3,3 +3,4 @@ mod Tests
 mod Beginnings
 mod Counting
 mod Climbing
+mod StateBytes

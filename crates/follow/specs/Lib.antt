@@ -3,3 +3,4 @@ pub mod Table
 pub mod Plan
 pub mod Counts
 pub mod Climb
+pub mod StateBytes

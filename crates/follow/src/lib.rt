@@ -2,3 +2,4 @@
 mod table; // table.rt: the numbers of a plan's entry
 mod climb; // climb.rt: the way up from an event node
 mod turn; // turn.rt: the counters after a turn
+mod state; // state.rt: where a run stands, and its bytes
