@@ -4,3 +4,5 @@ mod Beginnings
 mod Counting
 mod Climbing
 mod StateBytes
+mod RightCounts
+mod Standing

@@ -4,3 +4,4 @@ pub mod Plan
 pub mod Counts
 pub mod Climb
 pub mod StateBytes
+pub mod Valid

@@ -3,3 +3,4 @@ mod table; // table.rt: the numbers of a plan's entry
 mod climb; // climb.rt: the way up from an event node
 mod turn; // turn.rt: the counters after a turn
 mod state; // state.rt: where a run stands, and its bytes
+mod valid; // valid.rt: whether a run can stand there

@@ -1,4 +1,5 @@
-// Where a run stands, and the 66 bytes of a state that hold it.
+// Where a run stands: a node, which is 0 at the start or else 1 + the event node reached, and the counters of the repeats in rising
+// node order. A state is 66 bytes that hold them.
 ghost use mathlib.Core.Path.{_≡_};
 ghost use mathlib.Core.List.{_∷_};
 ghost use Prim.Native.Nat.{_+_, _/_, _%_, _<_};
@@ -10,13 +11,6 @@ pub const STATE_BYTES: usize = 66;
 
 // As many counters as a procedure may have repeats.
 pub const COUNTERS: usize = 32;
-
-pub struct Standing {
-    // 0 at the start, or else 1 + the event node reached.
-    pub node: usize,
-    // The counters of the repeats, in rising node order.
-    pub counts: [u16; 32],
-}
 
 fn wide(x: u8) -> u16
     ensures { λ r. ⌜ r ≡ x ⌝ }
@@ -42,31 +36,28 @@ fn put_two(bytes: &mut [u8], at: usize, x: u16)
     bytes[at + 1] = (x / 256 % 256) as u8;
 }
 
-// What the bytes hold.
-pub fn decode(bytes: &[u8]) -> Standing
+// What the bytes hold: the node, and the counters into those lent.
+pub fn decode(bytes: &[u8], counts: &mut [u16; 32]) -> usize
     requires { ⌜ length (now bytes) ≡ 66 ⌝ }
-    ensures { λ r. ⌜ Decoded (now (bytes .entry)) (r .node) (r .counts) ⌝ }
+    requires { ⌜ length (now counts) ≡ 32 ⌝ }
+    ensures { λ r. ⌜ Decoded (now (bytes .entry)) r (now (counts .exit)) ⌝ }
 {
-    let mut counts = [0u16; 32];
     let mut j = 0;
     while j < COUNTERS {
         counts[j] = two_at(bytes, 2 * j + 2);
         j += 1;
     }
-    Standing {
-        node: two_at(bytes, 0) as usize,
-        counts,
-    }
+    two_at(bytes, 0) as usize
 }
 
-// The bytes come to hold where the run stands.
-pub fn encode(s: Standing, bytes: &mut [u8])
+// The bytes come to hold the node and the counters.
+pub fn encode(node: usize, counts: &[u16; 32], bytes: &mut [u8])
     requires { ⌜ length (now bytes) ≡ 66 ⌝ }
-    requires { ⌜ s .node < 65536 ⌝ }
-    ensures { λ _. ⌜ now (bytes .exit) ≡ inTwos (s .node ∷ s .counts) ⌝ }
+    requires { ⌜ length (now counts) ≡ 32 ⌝ }
+    requires { ⌜ node < 65536 ⌝ }
+    ensures { λ _. ⌜ now (bytes .exit) ≡ inTwos (node ∷ now (counts .entry)) ⌝ }
 {
-    let counts = s.counts;
-    put_two(bytes, 0, s.node as u16);
+    put_two(bytes, 0, node as u16);
     let mut j = 0;
     while j < COUNTERS {
         put_two(bytes, 2 * j + 2, counts[j]);

@@ -1,5 +1,5 @@
 -- `follow::state::decode` meets its contract. The loop's invariant: the first j counters are those that the bytes hold. Assumes nothing.
-use mathlib.Core.Path.{_≡_, refl, subst, _∙_}
+use mathlib.Core.Path.{_≡_, subst, _∙_}
 use Prim.Native.Nat.{_≤_, _-_}
 use native.Mathlib.Omega.{arith}
 use borrow.Author.Count.{below-none}
@@ -16,7 +16,7 @@ abbrev μ-loop : tie.MeasureT-loop
 μ-loop bytes counts₀ j₀ counts j = 32 - j
 
 loop-holds : tie.Need-loop-holds Inv-loop μ-loop
-loop-holds c = (search needs, refl, below-none _)
+loop-holds c = (search needs, c .before .pre .1, below-none _)
 
 mul-two-at : tie.Need-mul-two-at Inv-loop μ-loop
 mul-two-at c = search needs
@@ -30,8 +30,8 @@ two-at-requires c κs = search needs
 mul-counts : tie.Need-mul-counts Inv-loop μ-loop
 mul-counts c = search needs
 
-array-write-counts : tie.Need-array-write-counts Inv-loop μ-loop
-array-write-counts c = search needs
+element-write-counts : tie.Need-element-write-counts Inv-loop μ-loop
+element-write-counts c = search needs
 
 add-j : tie.Need-add-j Inv-loop μ-loop
 add-j c = search needs
@@ -51,15 +51,15 @@ loop-again c =
 two-at-requires-2 : tie.Need-two-at-requires-2 Inv-loop μ-loop
 two-at-requires-2 c κs = search needs
 
-cast-t12 : tie.Need-cast-t12 Inv-loop μ-loop
-cast-t12 c = search needs
+cast-result : tie.Need-cast-result Inv-loop μ-loop
+cast-result c = search needs
 
 returns : tie.Need-returns Inv-loop μ-loop
 returns c =
     let at = c .before .before in
     let start = at .before .before in
     read-decoded (start .args .bytes .now) (at .loop .counts) (λ k. at .before .shared-slice-known .given k .fits) (at .loop .inv .1)
-    (subst (Read (start .args .bytes .now) (at .loop .counts)) (omega arith) (at .loop .inv .2)) (start .pre) _ (c .two-at2 .ensures)
+    (subst (Read (start .args .bytes .now) (at .loop .counts)) (omega arith) (at .loop .inv .2)) (start .pre .0) _ (c .two-at2 .ensures)
 
 pub decode-spec : {M : Type 1} → statement M
 decode-spec =
@@ -72,10 +72,10 @@ decode-spec =
     add-two-at
     two-at-requires
     mul-counts
-    array-write-counts
+    element-write-counts
     add-j
     loop-less
     loop-again
     two-at-requires-2
-    cast-t12
+    cast-result
     returns)

@@ -1,5 +1,4 @@
--- `follow::state::encode` meets its contract. The loop's invariant: whatever node the bytes held before the loop, they hold it and the
--- first j counters. Assumes nothing.
+-- `follow::state::encode` meets its contract. The loop's invariant: the bytes hold the node and the first j counters. Assumes nothing.
 use mathlib.Core.Path.{_≡_, refl, sym, ap, subst}
 use mathlib.Core.List.{_∷_}
 use Prim.Native.Nat.{ℕ, suc, _+_, _≤_, _-_}
@@ -12,11 +11,11 @@ use Rattle.follow.proofs.state.encode.Statement.{statement}
 use Rattle.follow.proofs.state.encode.Tie as tie
 
 abbrev Inv-loop : tie.InvT-loop
-Inv-loop bytes₀ counts j₀ bytes j =
-    (j ≤ 32) × (length bytes ≡ 66) × ((x : ℕ) → Filled bytes₀ (x ∷ counts) 1 → Filled bytes (x ∷ counts) (j + 1))
+Inv-loop node counts bytes₀ j₀ bytes j =
+    (j ≤ 32) × (length bytes ≡ 66) × Filled bytes (node ∷ counts) (j + 1)
 
 abbrev μ-loop : tie.MeasureT-loop
-μ-loop bytes₀ counts j₀ bytes j = 32 - j
+μ-loop node counts bytes₀ j₀ bytes j = 32 - j
 
 cast-put-two : tie.Need-cast-put-two Inv-loop μ-loop
 cast-put-two c = search needs
@@ -27,7 +26,13 @@ put-two-requires c κs = search needs
 loop-holds : tie.Need-loop-holds Inv-loop μ-loop
 loop-holds c =
     let put = c .before .before in
-    (search needs, omega (arith, put .put-two .kept .0), λ x w. subst (Filled (put .put-two .last .0) (x ∷ put .before .before .before .before .before .args .s .counts)) (omega arith) w)
+    let start = put .before .before .before in
+    let numbers = start .args .node ∷ start .args .counts .now in (
+      search needs,
+      omega (arith, put .put-two .kept .0),
+      subst (λ bytes. Filled bytes numbers 1) (sym (put .put-two .ensures))
+          (filled-more (start .args .bytes .now) numbers 0 0 (start .args .node) refl (omega arith) refl (below-none _)),
+    )
 
 mul-put-two : tie.Need-mul-put-two Inv-loop μ-loop
 mul-put-two c = search needs
@@ -38,8 +43,8 @@ add-put-two c = search needs
 mul-put-two-2 : tie.Need-mul-put-two-2 Inv-loop μ-loop
 mul-put-two-2 c = search needs
 
-array-read-put-two : tie.Need-array-read-put-two Inv-loop μ-loop
-array-read-put-two c = search needs
+element-copy-out-put-two : tie.Need-element-copy-out-put-two Inv-loop μ-loop
+element-copy-out-put-two c = search needs
 
 put-two-requires-2 : tie.Need-put-two-requires-2 Inv-loop μ-loop
 put-two-requires-2 c κs = search needs
@@ -53,13 +58,14 @@ loop-less c = search needs
 loop-again : tie.Need-loop-again Inv-loop μ-loop
 loop-again c =
     let put = c .before .before in
-    let at = put .before .before .before in
-    let counts = at .before .before .before .before .before .before .before .before .args .s .counts in
+    let at = put .before .before .before .before in
+    let start = at .before .before .before .before .before .before in
+    let numbers = start .args .node ∷ start .args .counts .now in
     let next : suc (at .loop .j) ≡ at .loop .j + 1 = omega arith in (
       search needs,
       omega (arith, put .put-two2 .kept .0),
-      λ x w. subst (λ bytes. Filled bytes (x ∷ counts) (at .loop .j + 1 + 1)) (sym (put .put-two2 .ensures))
-          (filled-more (at .loop .bytes) (x ∷ counts) (at .loop .j + 1) _ _ (omega arith) (omega arith) (ap (λ (k : ℕ). getD (x ∷ counts) k 0) next) (at .loop .inv .2 x w)),
+      subst (λ bytes. Filled bytes numbers (at .loop .j + 1 + 1)) (sym (put .put-two2 .ensures))
+          (filled-more (at .loop .bytes) numbers (at .loop .j + 1) _ _ (omega arith) (omega arith) (ap (λ (k : ℕ). getD numbers k 0) next) (at .loop .inv .2)),
     )
 
 same-length : tie.Need-same-length Inv-loop μ-loop
@@ -68,15 +74,9 @@ same-length c = search needs
 returns : tie.Need-returns Inv-loop μ-loop
 returns c =
     let at = c .before in
-    let put = at .before .before .before in
-    let start = put .before .before .before .before .before in
-    let numbers = start .args .s .node ∷ start .args .s .counts in
-    let long : length (start .args .s .counts) ≡ 32 = search needs in
-    let node : Filled (put .put-two .last .0) numbers 1 =
-    subst (λ bytes. Filled bytes numbers 1) (sym (put .put-two .ensures))
-    (filled-more (start .args .bytes .now) numbers 0 0 (start .args .s .node) refl (omega arith) refl (below-none _)) in
-    filled-twos (at .loop .bytes) numbers (omega arith)
-    (subst (Filled (at .loop .bytes) numbers) (omega arith) (at .loop .inv .2 (start .args .s .node) node))
+    let start = at .before .before .before .before .before .before in
+    let numbers = start .args .node ∷ start .args .counts .now in
+    filled-twos (at .loop .bytes) numbers (omega arith) (subst (Filled (at .loop .bytes) numbers) (omega arith) (at .loop .inv .2))
 
 pub encode-spec : {M : Type 1} → statement M
 encode-spec =
@@ -90,7 +90,7 @@ encode-spec =
     mul-put-two
     add-put-two
     mul-put-two-2
-    array-read-put-two
+    element-copy-out-put-two
     put-two-requires-2
     add-j
     loop-less
