@@ -6,3 +6,4 @@ mod Climbing
 mod StateBytes
 mod RightCounts
 mod Standing
+mod Reached
