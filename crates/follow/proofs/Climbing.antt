@@ -25,14 +25,11 @@ use Rattle.follow.specs.declared.climb.Turn.the-variants.{At, Ends, Stuc
 use Rattle.follow.specs.Plan.{aboveAt, beginsAt, startAt, rankAt, emptyAt, repeats, bit, Own, Planned, startsOf}
 use Rattle.follow.specs.Counts.{Clear, Held, Sets, done, next, Cleared, oneMore, raised, Turned}
 use Rattle.follow.specs.Climb.{moreOf, lookInto, lookRepeat, lookOf, Climbs, past, turns, stops, on}
+use Rattle.follow.proofs.Tests.{bit-one}
 use Rattle.follow.proofs.Beginnings.{Starts, does, does-not, Target, starts-by-test}
 use Rattle.follow.proofs.Counting.{Beside, Entered, clear-same, held-same, entered, rank-of-repeat, repeats-past}
 
 -- ---- the bounds as written, and what a stopped counter still tells
-
-bit-one : (b : Bool) → eqb (bit b) 1 ≡ b
-bit-one true = refl
-bit-one false = refl
 
 abbrev Bound : Bool → ℕ → Upper
 Bound none u = cond none endless (upto u)
@@ -168,18 +165,18 @@ module _ (nodes plan counts : List ℕ) (n q : ℕ) where
     in-repeat own (ended w c) go = go w c
     in-repeat own (halted w e) go = halted (rw w) e
 
-sets-done : {nodes plan : List ℕ} {x y : ℕ} {c z : List ℕ} → x ≤ y → Sets nodes plan x y c z → c ≡ z
+pub sets-done : {nodes plan : List ℕ} {x y : ℕ} {c z : List ℕ} → x ≤ y → Sets nodes plan x y c z → c ≡ z
 sets-done h (done l) = refl
 sets-done h (next l w) = absurd (omega arith)
 
 module _
-  (nodes plan counts : List ℕ)
-  (n q : ℕ)
-  (ranks : (i : ℕ) → i < n → rankAt plan i ≡ repeatsBelow (held nodes) i)
-  (some : repeatsBelow (held nodes) n ≤ 32)
-  (own : (s : ℕ) (d : Expr) → Stands (held nodes) s d → s + size d ≤ n → Own plan s d)
-  (target : Target (held nodes) n q)
-  (long : length counts ≡ 32) where
+    (nodes plan counts : List ℕ)
+    (n q : ℕ)
+    (ranks : (i : ℕ) → i < n → rankAt plan i ≡ repeatsBelow (held nodes) i)
+    (some : repeatsBelow (held nodes) n ≤ 32)
+    (own : (s : ℕ) (d : Expr) → Stands (held nodes) s d → s + size d ≤ n → Own plan s d)
+    (target : Target (held nodes) n q)
+    (long : length counts ≡ 32) where
   -- a turn at a sequence
   turned-sequence : (s k : ℕ) (l r : Expr) (a h : ℕ) → Stands (held nodes) s (sequence l r) → Planned plan s (sequence l r) a h
       → s + size l + size r < n → s + size l + size r < a → k ≡ repeatsBelow (held nodes) s
@@ -200,8 +197,7 @@ module _
       let v =
       entered nodes plan n i ranks some (s + size l) (k + repeats l) r a _ t (w .0) z (st .1) (pl .2) (omega arith) (omega arith) (omega arith) can
       (λ j u y. w .1 .gone j (omega arith) (omega arith)) (w .1 .long ∙ long) sets′ in
-      subst (λ (c : List ℕ). (Clear c k (repeats l) × Held c (k + repeats l) r t) × Beside counts c k (repeats l + repeats r)) (sets-done (omega arith) (v .on))
-      (
+      subst (λ (c : List ℕ). (Clear c k (repeats l) × Held c (k + repeats l) r t) × Beside counts c k (repeats l + repeats r)) (sets-done (omega arith) (v .on)) (
         (λ j u y. v .beside j (inl y) ∙ w .1 .gone j (omega arith) (omega arith), v .holds),
         λ j o.
             v .beside j (⊎-elim (λ y. inl (omega arith)) (λ y. inr (omega arith)) o)
@@ -210,13 +206,13 @@ module _
 
   -- what stands at a repeat: its bounds, its rank, and its counter
   module _
-    (s k : ℕ)
-    (b : Expr)
-    (lower : ℕ)
-    (upper : Upper)
-    (st : Stands (held nodes) s (repeat b lower upper))
-    (fit : s + size b < n)
-    (e : k ≡ repeatsBelow (held nodes) s) where
+      (s k : ℕ)
+      (b : Expr)
+      (lower : ℕ)
+      (upper : Upper)
+      (st : Stands (held nodes) s (repeat b lower upper))
+      (fit : s + size b < n)
+      (e : k ≡ repeatsBelow (held nodes) s) where
     u : ℕ
     u = st .1 .0
 
@@ -241,9 +237,9 @@ module _
         ap (λ (v : Bool). cond (eqb u 65535) (min (c + 1) (max 1 (cond v 0 lower))) (cond (ltb c u) (c + 1) c)) empties
         ∙ one-more-law p lower u c upper (nullable b) (eqb u 65535) (st .1 .2) held′ more in
         ap
-            (λ (m : Node). cond (eqb (kindOf m) 4)
-            (set z (rankAt plan i) (oneMore (emptyAt plan (i - 1)) (lowerOf m) (upperOf m) (getD z (rankAt plan i) 0))) z)
-            (st .1 .1)
+        (λ (m : Node). cond (eqb (kindOf m) 4)
+        (set z (rankAt plan i) (oneMore (emptyAt plan (i - 1)) (lowerOf m) (upperOf m) (getD z (rankAt plan i) 0))) z)
+        (st .1 .1)
         ∙ ap (λ (j : ℕ). set z j (oneMore (emptyAt plan (i - 1)) lower u (getD z j 0))) rank
         ∙ ap (set z (k + repeats b)) value
 
@@ -255,15 +251,15 @@ module _
         let c = getD counts (k + repeats b) 0 in
         let i = s + size b in
         ap
-            (λ (m : Node). cond (eqb (kindOf m) 4) (lookRepeat m plan (getD counts (rankAt plan i) 0) (i - 1) q) (lookInto plan (i - 1) q))
-            (st .1 .1)
+        (λ (m : Node). cond (eqb (kindOf m) 4) (lookRepeat m plan (getD counts (rankAt plan i) 0) (i - 1) q) (lookInto plan (i - 1) q))
+        (st .1 .1)
         ∙ ap (λ (j : ℕ). lookRepeat (node 4 0 (root s b) lower u) plan (getD counts j 0) (i - 1) q) rank
         ∙ ap
-            (λ (v : Bool). cond (startsOf plan (i - 1) q && v) Turns (cond (eqb (emptyAt plan (i - 1)) 1 || leb lower c) On Stops))
-            (more-law p (low (nullable b) lower) u c upper (eqb u 65535) (st .1 .2) held′)
+        (λ (v : Bool). cond (startsOf plan (i - 1) q && v) Turns (cond (eqb (emptyAt plan (i - 1)) 1 || leb lower c) On Stops))
+        (more-law p (low (nullable b) lower) u c upper (eqb u 65535) (st .1 .2) held′)
         ∙ ap (λ (v : Bool). cond (startsOf plan (i - 1) q && another p upper) Turns (cond (v || leb lower c) On Stops)) empties
         ∙ ap (λ (v : Bool). cond (startsOf plan (i - 1) q && another p upper) Turns (cond v On Stops))
-            (enough-law p lower u c upper (nullable b) (eqb u 65535) (st .1 .2) held′)
+        (enough-law p lower u c upper (nullable b) (eqb u 65535) (st .1 .2) held′)
         ∙ ap (λ (y : ℕ). cond (startsOf plan y q && another p upper) Turns (cond (leb (low (nullable b) lower) (suc p)) On Stops)) before
 
     -- a turn at a repeat
@@ -284,8 +280,7 @@ module _
         let v =
         entered nodes plan n i ranks some s k b i h t d z (st .0) (pl .1) (omega arith) (omega arith) e can
         (λ j x y. other j (λ o. omega arith) ∙ w .1 .gone j (omega arith) (omega arith)) (length-set (w .0) _ _ ∙ w .1 .long ∙ long) sets′ in
-        subst (λ (c : List ℕ). Held c k (repeat b lower upper) (t, suc p) × Beside counts c k (repeats b + 1)) (sets-done (omega arith) (v .on))
-        (
+        subst (λ (c : List ℕ). Held c k (repeat b lower upper) (t, suc p) × Beside counts c k (repeats b + 1)) (sets-done (omega arith) (v .on)) (
           (
             v .holds,
             v .beside (k + repeats b) (inr (omega arith)) ∙ getD-set-same (w .0) (k + repeats b) _ 0 (omega (arith, w .1 .long ∙ long)),
@@ -306,7 +301,7 @@ module _
       ap (λ (m : Node). cond (eqb (kindOf m) 4) (lookRepeat (held nodes i) plan (getD counts (rankAt plan i) 0) (i - 1) q) (lookInto plan (i - 1) q)) (st .2)
       ∙ ap (λ (y : ℕ). lookInto plan y q) before
       ∙ ap (λ (v : Bool). cond (startsOf plan (root (s + size l) r) q) Turns (cond v On Stops))
-          (ap (λ (y : ℕ). eqb y 1) (own (s + size l) r (st .1) (omega arith) .empties) ∙ bit-one (nullable r))
+      (ap (λ (y : ℕ). eqb y 1) (own (s + size l) r (st .1) (omega arith) .empties) ∙ bit-one (nullable r))
 
   -- the right part begins no higher than the plan says
   right-up : (l : Bool) (h i y : ℕ) → y ≤ i → i ≤ h → y ≤ cond l h y

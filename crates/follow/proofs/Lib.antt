@@ -3,6 +3,11 @@ mod Tests
 mod Beginnings
 mod Counting
 mod Climbing
+mod Downward
+mod Upward
+mod Whole
+mod Links
+mod Stepping
 mod StateBytes
 mod RightCounts
 mod Standing

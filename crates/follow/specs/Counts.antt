@@ -28,9 +28,16 @@ Held counts k (sequence l r) (inr p) = Clear counts k (repeats l) × Held counts
 Held counts k (repeat b lower upper) p =
     Held counts k b (p .0) × (getD counts (k + repeats b) 0 ≡ stop (low (nullable b) lower) upper (suc (p .1)))
 
--- the counters are those of the place, and 0 past the last repeat
-abbrev pub Marked : List ℕ → (e : Expr) → Place e → Type 0
-Marked counts e p = Held counts 0 e p × ((j : ℕ) → repeats e ≤ j → getD counts j 0 ≡ 0)
+-- the 32 counters are those of the place, and 0 past the last repeat
+pub record Marked (counts : List ℕ) (e : Expr) (p : Place e) : Type 0 where
+  pub holds : Held counts 0 e p
+  pub past : (j : ℕ) → repeats e ≤ j → getD counts j 0 ≡ 0
+  pub long : length counts ≡ 32
+
+-- the 32 counters are 0, as at the start
+pub record Unmarked (counts : List ℕ) : Type 0 where
+  pub none : (j : ℕ) → getD counts j 0 ≡ 0
+  pub long : length counts ≡ 32
 
 -- where node y is a repeat, its counter is made 1
 abbrev pub marked : List ℕ → List ℕ → ℕ → List ℕ → List ℕ

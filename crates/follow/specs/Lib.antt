@@ -3,5 +3,7 @@ pub mod Table
 pub mod Plan
 pub mod Counts
 pub mod Climb
+pub mod Filling
+pub mod Step
 pub mod StateBytes
 pub mod Valid

@@ -70,6 +70,7 @@ pub record Plans (nodes plan : List ℕ) (n : ℕ) (e : Expr) : Type 0 where
   pub few : n ≤ 512
   pub some : repeatsBelow (held nodes) n ≤ 32
   pub ranks : (i : ℕ) → i < n → rankAt plan i ≡ repeatsBelow (held nodes) i
+  pub from : (i : ℕ) → i < n → startAt plan i ≤ i
   pub own : (s : ℕ) (d : Expr) → Stands (held nodes) s d → s + size d ≤ n → Own plan s d
   pub planned : Planned plan 0 e top (root 0 e)
 

@@ -22,6 +22,7 @@ pub mod Files
 pub mod Refusals
 pub mod Outcomes
 pub mod Records
+pub mod FreeText
 pub mod Stays
 pub mod States
 pub mod Continue

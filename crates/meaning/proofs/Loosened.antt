@@ -18,16 +18,20 @@ use Rattle.meaning.proofs.Place.{Place, nodeOf, codeOf, Step}
 use Rattle.meaning.proofs.Records.{code-of-node}
 use Rattle.meaning.proofs.Ways.{Entry, enters, apart, entry, Way, turns, ends, stuck, orElse, mapEntry, another, way, mapWay, again, enough, Turned, Unstuck, climb, climb-turned-below, climb-turned-here, climb-unstuck, step-turned, turned-to, way-step}
 
+-- the turn leads there, to whatever place
+abbrev pub there : {A : Type 0} → A → Unit {0}
+there a = tt
+
 -- the way from a place towards event node q in the loosened part: a repeat may end after each of its blocks, and begin another
 -- where upper is at least 2, so the counters do not matter
 abbrev pub near : ℕ → (e : Expr) → Place e → ℕ → Way (Unit {0})
 near s empty p q = stuck
 near s (event c) p q = ends
-near s (choice l r) (inl p) q = near s l p q
-near s (choice l r) (inr p) q = near (s + size l) r p q
-near s (sequence l r) (inl p) q = climb (λ t. tt) (near s l p q) (λ t. tt) (entry (s + size l) r q) (nullable r)
-near s (sequence l r) (inr p) q = near (s + size l) r p q
-near s (repeat b lower upper) p q = climb (λ t. tt) (near s b (p .0) q) (λ t. tt) (cond (many upper) (entry s b q) apart) true
+near s (choice l r) (inl p) q = mapWay there (near s l p q) ends
+near s (choice l r) (inr p) q = mapWay there (near (s + size l) r p q) ends
+near s (sequence l r) (inl p) q = climb there (near s l p q) there (entry (s + size l) r q) (nullable r)
+near s (sequence l r) (inr p) q = mapWay there (near (s + size l) r p q) ends
+near s (repeat b lower upper) p q = climb there (near s b (p .0) q) there (cond (many upper) (entry s b q) apart) true
 
 -- event node q can directly follow that of the place in the loosened part
 abbrev pub Near : ℕ → (e : Expr) → Place e → ℕ → Type 0
@@ -50,12 +54,13 @@ turned-unstuck (turns a) h = tt
 turned-unstuck ends h = absurd h
 turned-unstuck stuck h = absurd h
 
+-- what is entered is entered at a place
 entered-at : {A : Type 0} (y : Entry A) → So (entered y) → (a : A) × (y ≡ enters a)
 entered-at (enters a) h = (a, refl)
 entered-at apart h = absurd (false≢true h)
 
 module _ {A B C A′ B′ C′ : Type 0} (f : A → C) (g : B → C) (f′ : A′ → C′) (g′ : B′ → C′) where
-  -- the climb from a way that covers another covers the climb from that
+  -- the climb from a covering way, with an entry and an end wherever the other has them, covers the other climb
   climb-covers : (x : Way A) (y : Entry B) (b : Bool) (x′ : Way A′) (y′ : Entry B′) (b′ : Bool) → Covers x x′ → (So (entered y) → So (entered y′)) → (So b → So b′)
       → Covers (climb f x g y b) (climb f′ x′ g′ y′ b′)
   climb-covers (turns a) y b x′ y′ b′ h e k =
@@ -67,11 +72,9 @@ module _ {A B C A′ B′ C′ : Type 0} (f : A → C) (g : B → C) (f′ : A�
   climb-covers ends apart false x′ y′ b′ h e k = (λ z. absurd z, λ z. absurd z)
   climb-covers stuck y b x′ y′ b′ h e k = (λ z. absurd z, λ z. absurd z)
 
--- a way within a child alone is that of the child
-child-covers : {A B C : Type 0} (f : A → B) (x : Way A) (y : Way C) → Covers x y → Covers (mapWay f x ends) y
-child-covers f (turns a) y h = h
-child-covers f ends y h = h
-child-covers f stuck y h = h
+-- likewise within a child alone
+child-covers : {A B C D : Type 0} (f : A → B) (g : C → D) (x : Way A) (y : Way C) → Covers x y → Covers (mapWay f x ends) (mapWay g y ends)
+child-covers f g x y h = climb-covers f f g g x apart true y apart true h (λ z. z) (λ z. z)
 
 -- an entry behind a wider test
 entered-behind : {A : Type 0} (b d : Bool) (x : Entry A) → (So b → So d) → So (entered (cond b x apart)) → So (entered (cond d x apart))
@@ -88,14 +91,14 @@ another-many k endless h = refl
 way-near : (s : ℕ) (e : Expr) (p : Place e) (q : ℕ) → Covers (way s e p q) (near s e p q)
 way-near s empty p q = absurd p
 way-near s (event c) p q = (λ h. h, λ h. h)
-way-near s (choice l r) (inl p) q = child-covers inl (way s l p q) (near s l p q) (way-near s l p q)
-way-near s (choice l r) (inr p) q = child-covers inr (way (s + size l) r p q) (near (s + size l) r p q) (way-near (s + size l) r p q)
+way-near s (choice l r) (inl p) q = child-covers inl there (way s l p q) (near s l p q) (way-near s l p q)
+way-near s (choice l r) (inr p) q = child-covers inr there (way (s + size l) r p q) (near (s + size l) r p q) (way-near (s + size l) r p q)
 way-near s (sequence l r) (inl p) q =
     let y = entry (s + size l) r q in
-    climb-covers inl inr (λ t. tt) (λ t. tt) (way s l p q) y (nullable r) (near s l p q) y (nullable r) (way-near s l p q) (λ h. h) (λ h. h)
-way-near s (sequence l r) (inr p) q = child-covers inr (way (s + size l) r p q) (near (s + size l) r p q) (way-near (s + size l) r p q)
+    climb-covers inl inr there there (way s l p q) y (nullable r) (near s l p q) y (nullable r) (way-near s l p q) (λ h. h) (λ h. h)
+way-near s (sequence l r) (inr p) q = child-covers inr there (way (s + size l) r p q) (near (s + size l) r p q) (way-near (s + size l) r p q)
 way-near s (repeat b lower upper) p q =
-    climb-covers (λ t. (t, p .1)) (λ t. (t, suc (p .1))) (λ t. tt) (λ t. tt) (way s b (p .0) q) (again s b (p .1) upper q) (enough b lower (p .1))
+    climb-covers (λ t. (t, p .1)) (λ t. (t, suc (p .1))) there there (way s b (p .0) q) (again s b (p .1) upper q) (enough b lower (p .1))
     (near s b (p .0) q) (cond (many upper) (entry s b q) apart) true (way-near s b (p .0) q)
     (entered-behind (another (p .1) upper) (many upper) (entry s b q) (another-many (p .1) upper)) (λ h. refl)
 
@@ -115,6 +118,7 @@ data Loose : Expr → Expr → Type 0 where
       → low (nullable d) low′ ≤ 1 → ((k : ℕ) → another k up′ ≡ many upper) → Within low′ up′ → Within 1 up′
       → Loose (repeat b lower upper) (repeat d low′ up′)
 
+-- as many nodes
 loose-size : {e d : Expr} → Loose e d → size d ≡ size e
 loose-size loose-empty = refl
 loose-size (loose-event c) = refl
@@ -122,6 +126,7 @@ loose-size (loose-choice x y) = omega (arith, loose-size x, loose-size y)
 loose-size (loose-sequence x y) = omega (arith, loose-size x, loose-size y)
 loose-size (loose-repeat lower low′ upper up′ x n lo an wl wo) = omega (arith, loose-size x)
 
+-- empty where e may be
 loose-nullable : {e d : Expr} → Loose e d → nullable d ≡ nullable e
 loose-nullable loose-empty = refl
 loose-nullable (loose-event c) = refl
@@ -129,6 +134,7 @@ loose-nullable (loose-choice x y) = ap₂ _||_ (loose-nullable x) (loose-nullabl
 loose-nullable (loose-sequence x y) = ap₂ _&&_ (loose-nullable x) (loose-nullable y)
 loose-nullable (loose-repeat lower low′ upper up′ x n lo an wl wo) = n
 
+-- bounds in order
 loose-bounded : {e d : Expr} → Loose e d → Bounded d
 loose-bounded loose-empty = tt
 loose-bounded (loose-event c) = tt
@@ -136,23 +142,23 @@ loose-bounded (loose-choice x y) = (loose-bounded x, loose-bounded y)
 loose-bounded (loose-sequence x y) = (loose-bounded x, loose-bounded y)
 loose-bounded (loose-repeat lower low′ upper up′ x n lo an wl wo) = (loose-bounded x, wl, wo)
 
--- ---- a loosened expression is one
-
--- the loosened lower bound is 0 exactly where the lower bound, over that body, is
+-- a loosened lower bound is 0 exactly where the normal-form lower bound is
 null-same : (n : Bool) (lower : ℕ) → isZero (atMostOne (low n lower)) || n ≡ isZero lower || n
 null-same true zero = refl
 null-same true (suc k) = refl
 null-same false zero = refl
 null-same false (suc k) = refl
 
--- it is at most 1
-low-one : (n : Bool) (lower : ℕ) → lower ≤ 1 → low n lower ≤ 1
-low-one n lower h = let g = low-le n lower in omega arith
-
+-- and at most 1
 at-most-one : (n : ℕ) → atMostOne n ≤ 1
 at-most-one zero = omega arith
 at-most-one (suc n) = omega arith
 
+-- so is the normal form of what is at most 1
+low-one : (n : Bool) (lower : ℕ) → lower ≤ 1 → low n lower ≤ 1
+low-one n lower h = let g = low-le n lower in omega arith
+
+-- a repeat over a loosened body is loosened; where upper is 1 its bounds stay
 loosen-repeat : {b d : Expr} (lower : ℕ) (upper : Upper) → Loose b d → Within lower upper → Within 1 upper → (m : Bool) → many upper ≡ m
     → Loose (repeat b lower upper) (cond m (repeat d (atMostOne (low (nullable b) lower)) endless) (repeat d lower upper))
 loosen-repeat {b} {d} lower upper x h k true e =
@@ -165,6 +171,7 @@ loosen-repeat {b} {d} lower (upto n) x h k false e =
     (low-one (nullable d) lower (omega arith)) (λ k. not-leb (suc (suc k)) n .1 (omega arith) ∙ sym e) h k
 loosen-repeat {b} {d} lower endless x h k false e = absurd (false≢true (sym e))
 
+-- `loosen` gives the loosened part
 loosen-loose : (e : Expr) → Bounded e → Loose e (loosen e)
 loosen-loose empty h = loose-empty
 loosen-loose (event c) h = loose-event c
@@ -172,9 +179,9 @@ loosen-loose (choice l r) h = loose-choice (loosen-loose l (h .0)) (loosen-loose
 loosen-loose (sequence l r) h = loose-sequence (loosen-loose l (h .0)) (loosen-loose r (h .1))
 loosen-loose (repeat b lower upper) h = loosen-repeat lower upper (loosen-loose b (h .0)) (h .1) (h .2) (many upper) refl
 
--- ---- what stays
+-- ---- event nodes, entries and ways of the loosened part
 
--- no choice, sequence or repeat is an event
+-- no other kind of part is an event
 no-whole : (s z i c : ℕ) (e d : Expr) → ¬ IsEvent e → ¬ IsEvent d → Whole z e i (event c) ↔ Whole s d i (event c)
 no-whole s z i c e d f g = (λ w. absurd (f (subst IsEvent (w .1) tt)), λ w. absurd (g (subst IsEvent (w .1) tt)))
 
@@ -191,7 +198,7 @@ loose-part (loose-sequence {l} {k} {r} {t} x y) s z h i c =
 loose-part (loose-repeat {b} {d} lower low′ upper up′ x n lo an wl wo) s z h i c =
     iff-sum (loose-part x s z h i c) (no-whole s z i c (repeat b lower upper) (repeat d low′ up′) (λ u. u) (λ u. u))
 
--- there is an entry into one of two children, the second behind a test
+-- where there is an entry into one of two children, the second behind a test; behind a test alone; into a child alone
 entered-pair : {A B C : Type 0} (f : A → C) (g : B → C) (b : Bool) (x : Entry A) (y : Entry B)
     → entered (orElse (mapEntry f x) (cond b (mapEntry g y) apart)) ≡ entered x || (b && entered y)
 entered-pair f g b (enters a) y = refl
@@ -207,7 +214,7 @@ entered-map : {A B : Type 0} (f : A → B) (x : Entry A) → entered (mapEntry f
 entered-map f (enters a) = refl
 entered-map f apart = refl
 
--- so do the entries
+-- the entries stay
 loose-entry : {e d : Expr} → Loose e d → (s z : ℕ) → s ≡ z → (q : ℕ) → entered (entry s d q) ≡ entered (entry z e q)
 loose-entry loose-empty s z h q = refl
 loose-entry (loose-event f) s z h q = ap {B = Bool} (λ n. entered (entry n (event f) q)) h
@@ -228,18 +235,18 @@ loose-entry (loose-repeat {b} {d} lower low′ upper up′ x n lo an wl wo) s z 
 abbrev Agrees : {A B : Type 0} → Way A → Way B → Type 0
 Agrees x y = Covers x y × Covers y x
 
-child-agrees : {A B C : Type 0} (f : A → B) (x : Way A) (y : Way C) → Agrees x y → Agrees (mapWay f x ends) y
-child-agrees f (turns a) y h = h
-child-agrees f ends y h = h
-child-agrees f stuck y h = h
-
 module _ {A B C A′ B′ C′ : Type 0} (f : A → C) (g : B → C) (f′ : A′ → C′) (g′ : B′ → C′) where
+  -- climbs from ways that agree, with the same entry and end, agree
   climb-agrees : (x : Way A) (y : Entry B) (b : Bool) (x′ : Way A′) (y′ : Entry B′) (b′ : Bool) → Agrees x x′ → entered y ≡ entered y′ → b ≡ b′
       → Agrees (climb f x g y b) (climb f′ x′ g′ y′ b′)
   climb-agrees x y b x′ y′ b′ h e k = (
     climb-covers f g f′ g′ x y b x′ y′ b′ (h .0) (λ w. sym e ∙ w) (λ w. sym k ∙ w),
     climb-covers f′ g′ f g x′ y′ b′ x y b (h .1) (λ w. e ∙ w) (λ w. k ∙ w),
   )
+
+-- likewise within a child alone
+child-agrees : {A B C D : Type 0} (f : A → B) (g : C → D) (x : Way A) (y : Way C) → Agrees x y → Agrees (mapWay f x ends) (mapWay g y ends)
+child-agrees f g x y h = climb-agrees f f g g x apart true y apart true h refl refl
 
 -- the nodes of a part are none of those of a part behind it
 before-not-behind : (s z : ℕ) (l r : Expr) (p : Place l) (t : Place r) → s + size l ≤ z → ¬ (nodeOf s l p ≡ nodeOf z r t)
@@ -254,17 +261,17 @@ loose-way : {e d : Expr} → Loose e d → (s z : ℕ) → s ≡ z → (p : Plac
 loose-way loose-empty s z h p t i q = absurd p
 loose-way (loose-event f) s z h p t i q = ((λ w. w, λ w. w), (λ w. w, λ w. w))
 loose-way (loose-choice {l} {k} {r} {t = m} x y) s z h (inl p) (inl t) i q =
-    child-agrees inl (way s k t q) (near z l p q) (loose-way x s z h p t i q)
+    child-agrees inl there (way s k t q) (near z l p q) (loose-way x s z h p t i q)
 loose-way (loose-choice {l} {k} {r} {t = m} x y) s z h (inl p) (inr t) i q =
     absurd (before-not-behind z (s + size k) l m p t (omega (arith, loose-size x)) (sym i))
 loose-way (loose-choice {l} {k} {r} {t = m} x y) s z h (inr p) (inl t) i q =
     absurd (before-not-behind s (z + size l) k r t p (omega (arith, loose-size x)) i)
 loose-way (loose-choice {l} {k} {r} {t = m} x y) s z h (inr p) (inr t) i q =
     let g : s + size k ≡ z + size l = omega (arith, loose-size x) in
-    child-agrees inr (way (s + size k) m t q) (near (z + size l) r p q) (loose-way y (s + size k) (z + size l) g p t i q)
+    child-agrees inr there (way (s + size k) m t q) (near (z + size l) r p q) (loose-way y (s + size k) (z + size l) g p t i q)
 loose-way (loose-sequence {l} {k} {r} {t = m} x y) s z h (inl p) (inl t) i q =
     let g : s + size k ≡ z + size l = omega (arith, loose-size x) in
-    climb-agrees inl inr (λ a. tt) (λ a. tt) (way s k t q) (entry (s + size k) m q) (nullable m) (near z l p q) (entry (z + size l) r q) (nullable r)
+    climb-agrees inl inr there there (way s k t q) (entry (s + size k) m q) (nullable m) (near z l p q) (entry (z + size l) r q) (nullable r)
     (loose-way x s z h p t i q) (loose-entry y (s + size k) (z + size l) g q) (loose-nullable y)
 loose-way (loose-sequence {l} {k} {r} {t = m} x y) s z h (inl p) (inr t) i q =
     absurd (before-not-behind z (s + size k) l m p t (omega (arith, loose-size x)) (sym i))
@@ -272,12 +279,12 @@ loose-way (loose-sequence {l} {k} {r} {t = m} x y) s z h (inr p) (inl t) i q =
     absurd (before-not-behind s (z + size l) k r t p (omega (arith, loose-size x)) i)
 loose-way (loose-sequence {l} {k} {r} {t = m} x y) s z h (inr p) (inr t) i q =
     let g : s + size k ≡ z + size l = omega (arith, loose-size x) in
-    child-agrees inr (way (s + size k) m t q) (near (z + size l) r p q) (loose-way y (s + size k) (z + size l) g p t i q)
+    child-agrees inr there (way (s + size k) m t q) (near (z + size l) r p q) (loose-way y (s + size k) (z + size l) g p t i q)
 loose-way (loose-repeat {b} {d} lower low′ upper up′ x n lo an wl wo) s z h p t i q =
     let v = cond (many upper) (entry z b q) apart in
     let e = entered-cond (another (t .1) up′) (entry s d q) ∙ ap₂ _&&_ (an (t .1)) (loose-entry x s z h q)
     ∙ sym (entered-cond (many upper) (entry z b q)) in
-    climb-agrees (λ a. (a, t .1)) (λ a. (a, suc (t .1))) (λ a. tt) (λ a. tt) (way s d (t .0) q) (again s d (t .1) up′ q) (enough d low′ (t .1))
+    climb-agrees (λ a. (a, t .1)) (λ a. (a, suc (t .1))) there there (way s d (t .0) q) (again s d (t .1) up′ q) (enough d low′ (t .1))
     (near z b (p .0) q) v true (loose-way x s z h (p .0) (t .0) i q) e (so-leb (low (nullable d) low′) (suc (t .1)) .1 (omega arith))
 
 -- ---- what directly follows
@@ -295,7 +302,7 @@ stepped-iff-near {e} {d} x p j c = (
       let t = part-place 0 d (loose-bounded x) i (codeOf e p) (loose-part x 0 0 refl i (codeOf e p) .0 (place-part 0 e p)) in
       let turn = turned-to (way 0 d (t .0) j) (loose-way x 0 0 refl p (t .0) (t .2) j .1 .0 (f .0)) in
       let k = way-step 0 d (t .0) j (turn .0) (turn .1) in
-      let there = subst (λ (n : ℕ). Part 0 d n (event (codeOf d (turn .0)))) (k .2) (place-part 0 d (turn .0)) in
+      let code-there = subst (λ (n : ℕ). Part 0 d n (event (codeOf d (turn .0)))) (k .2) (place-part 0 d (turn .0)) in
       record {
         from = t .0;
         to = turn .0;
@@ -304,7 +311,7 @@ stepped-iff-near {e} {d} x p j c = (
         step = k .1;
         from-node = t .2;
         to-node = k .2;
-        to-code = code-of-node d j (codeOf d (turn .0)) c there (loose-part x 0 0 refl j c .0 (f .1));
+        to-code = code-of-node d j (codeOf d (turn .0)) c code-there (loose-part x 0 0 refl j c .0 (f .1));
       },
 )
 

@@ -10,7 +10,7 @@ use lib.Seq.{getD-set-same, getD-set-other}
 use Rattle.meaning.specs.Bytes.{byteAt}
 use Rattle.meaning.specs.Node.{node}
 use Rattle.meaning.specs.File.{count, recordAt, span}
-use Rattle.procedure.specs.Entry.{packed, unpacked, Tied}
+use Rattle.procedure.specs.Entry.{NoFields, packed, unpacked, Tied}
 
 -- ---- a node as a number, and back
 
@@ -33,6 +33,15 @@ packed-unpacked k c x y z hk hc hx hy =
     ∙ below (y + 65536 * z) z 65536 y hy (omega arith) in
     let last = above n z 281474976710656 (k + 256 * c + 65536 * x + 4294967296 * y) (omega arith) (omega arith) in
     λ i. node (first i) (code i) (left i) (middle i) (last i)
+
+-- from 65,536 on, a field is not 0
+pub field-over : (x : ℕ) → 65535 < x → NoFields (unpacked x) → ⊥
+unfolding unpacked
+field-over x h p =
+    let last : x < 281474976710656 = omega (arith, p .2) in
+    let middle : x / 4294967296 ≡ 0 = omega (arith, p .1) in
+    let first : x / 65536 ≡ 0 = omega (arith, p .0) in
+    omega arith
 
 record-kept : (f : List ℕ) (at : ℕ) → ((i : ℕ) → byteAt f i < 256) → unpacked (packed (recordAt f at)) ≡ recordAt f at
 record-kept f at small =

@@ -1,3 +1,9 @@
--- The laws that belong to no one function.
+-- The laws that belong to no one function: `Nodes` for whoever reads a file, the others for the proofs of this crate.
+mod Counting
+mod Deciding
 mod Entries
+mod Lines
+pub mod Nodes
+mod Openings
+mod Orders
 mod Trailer

@@ -1,9 +1,9 @@
 -- Entries: a node as one number, its record's 8 bytes read little-endian. A model of our code, and no promise.
 use mathlib.Core.Path.{_≡_}
 use mathlib.Core.List.{List}
-use Prim.Native.Nat.{ℕ, _+_, _*_, _/_, _%_, _<_}
+use Prim.Native.Nat.{ℕ, _+_, _*_, _/_, _%_, _≤_, _<_}
 use lib.ListN.{getD}
-use Rattle.meaning.specs.Node.{Node, node}
+use Rattle.meaning.specs.Node.{Node, UpperWritten, node}
 use Rattle.meaning.specs.File.{nodeAt}
 
 -- a node as one number
@@ -35,6 +35,14 @@ lowerOf (node kind code x lower z) = lower
 
 abbrev pub upperOf : Node → ℕ
 upperOf (node kind code x y upper) = upper
+
+-- the three fields are 0
+abbrev pub NoFields : Node → Type 0
+NoFields (node kind code x y z) = (x ≡ 0) × (y ≡ 0) × (z ≡ 0)
+
+-- the bounds of a repeat keep to the table
+abbrev pub BoundsWritten : ℕ → ℕ → Type 0
+BoundsWritten lower upper = (lower ≤ 4096) × UpperWritten upper × (lower ≤ upper)
 
 -- the node that entry i of the array holds
 abbrev pub held : List ℕ → ℕ → Node

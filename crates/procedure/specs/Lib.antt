@@ -1,3 +1,6 @@
 -- What the contracts on files and nodes cite.
 pub mod Entry
 pub mod Tests
+pub mod Parts
+pub mod Repeats
+pub mod Opening

@@ -5,6 +5,7 @@ ghost use lib.ListN.{length};
 ghost use Rattle.meaning.specs.File.{Measured, count, recordAt};
 ghost use Rattle.procedure.specs.Entry.{Tied, packed};
 use crate::bytes;
+use crate::entry;
 use crate::frame;
 
 // The record whose 8 bytes stand from `at` on.
@@ -13,9 +14,9 @@ fn entry_at(file: &[u8], at: usize) -> u64
     ensures { λ r. ⌜ r ≡ packed (recordAt (now (file .entry)) at) ⌝ }
 {
     let low = bytes::wide(file[at])
-        + 256 * bytes::wide(file[at + 1])
-        + 65536 * bytes::two_at(file, at + 2);
-    low + 4294967296 * bytes::two_at(file, at + 4) + 281474976710656 * bytes::two_at(file, at + 6)
+        + entry::CODE * bytes::wide(file[at + 1])
+        + entry::FIRST * bytes::two_at(file, at + 2);
+    low + entry::SECOND * bytes::two_at(file, at + 4) + entry::THIRD * bytes::two_at(file, at + 6)
 }
 
 // The first n entries become those of the file's nodes.

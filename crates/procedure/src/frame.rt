@@ -19,14 +19,14 @@ const LETTERS: u64 = 0x5051_4553;
 
 const EDITION: u64 = 1;
 
-// The trailer, and what stands in it, in bytes from the end of the file.
+// How many bytes the trailer has, and how far from the end of the file its numbers stand.
 pub const TRAILER: usize = 12;
 
-const COUNT: usize = 8;
+const COUNT_FROM_END: usize = 8;
 
-const NUMBER: usize = 6;
+const EDITION_FROM_END: usize = 6;
 
-const DISTANCE: usize = 4;
+const DISTANCE_FROM_END: usize = 4;
 
 // How many bytes a node record has.
 pub const RECORD: usize = 8;
@@ -52,7 +52,7 @@ pub fn lettered(file: &[u8]) -> bool
     if bytes::four_at(file, file.len() - TRAILER) != LETTERS {
         return false;
     }
-    if bytes::two_at(file, file.len() - NUMBER) != EDITION {
+    if bytes::two_at(file, file.len() - EDITION_FROM_END) != EDITION {
         return false;
     }
     true
@@ -64,7 +64,7 @@ pub fn count_of(file: &[u8]) -> usize
     ensures { λ r. ⌜ r ≡ count (now (file .entry)) ⌝ }
     ensures { λ r. ⌜ r < 65536 ⌝ }
 {
-    bytes::two_at(file, file.len() - COUNT) as usize
+    bytes::two_at(file, file.len() - COUNT_FROM_END) as usize
 }
 
 // Whether 3 does not apply.
@@ -80,7 +80,7 @@ pub fn measured(file: &[u8]) -> bool
         return false;
     }
     let span = TRAILER + RECORD * n;
-    if bytes::four_at(file, file.len() - DISTANCE) as usize != span {
+    if bytes::four_at(file, file.len() - DISTANCE_FROM_END) as usize != span {
         return false;
     }
     if file.len() < span {

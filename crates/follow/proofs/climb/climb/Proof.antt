@@ -1,12 +1,11 @@
-use Prim.Native.Nat.{ℕ}
-use mathlib.Core.Path.{subst}
-use Prim.Native.Nat.{_≤_, _-_}
+-- `follow::climb::climb` meets its contract. Assumes nothing.
+use mathlib.Core.Path.{subst, sym, _∙_}
+use Prim.Native.Nat.{ℕ, _≤_, _-_}
 use native.Mathlib.Omega.{arith}
 use borrow.Author.Needs.{needs}
-use Rattle.follow.specs.declared.climb.Turn.{Turn}
-use Rattle.follow.specs.Plan.{aboveAt}
 use Rattle.follow.specs.Climb.{Climbs, past, turns, stops, on}
-use mathlib.Core.Path.{sym, _∙_}
+use Rattle.follow.specs.Plan.{aboveAt}
+use Rattle.follow.specs.declared.climb.Turn.{Turn}
 use Rattle.follow.proofs.climb.climb.Statement.{statement}
 use Rattle.follow.proofs.climb.climb.Tie as tie
 
@@ -26,14 +25,14 @@ above-of-requires : tie.Need-above-of-requires Inv-loop μ-loop
 above-of-requires c κs = search needs
 
 loop-holds : tie.Need-loop-holds Inv-loop μ-loop
-loop-holds c = 
+loop-holds c =
     let start = c .before .before in
     let a = start .args in
     let up = start .pre .1 .1 (a .p) (start .pre .1 .0) in
     (omega (arith, c .above-of .ensures .0), λ r. subst (λ (y : ℕ). Climbs (a .nodes .now) (a .plan .now) (a .counts .now) (a .n) (a .q) y r) (c .above-of .ensures .0))
 
 look-at-requires : tie.Need-look-at-requires Inv-loop μ-loop
-look-at-requires c κs = 
+look-at-requires c κs =
     let start = c .before .before .before .before in
     (c .before .loop .inv .0, (omega arith, start .pre .1 .1 (c .before .loop .x) (c .loop-test .taken) .counted))
 
@@ -41,7 +40,7 @@ enum-told : tie.Need-enum-told Inv-loop μ-loop
 enum-told c = search needs
 
 returns : tie.Need-returns Inv-loop μ-loop
-returns c = 
+returns c =
     let look = c .before .before in
     look .before .before .loop .inv .1 _ (turns (look .before .loop-test .taken) (sym (look .look-at .ensures) ∙ c .enum-told .given .1))
 
@@ -49,7 +48,7 @@ enum-told-2 : tie.Need-enum-told-2 Inv-loop μ-loop
 enum-told-2 c = search needs
 
 returns-2 : tie.Need-returns-2 Inv-loop μ-loop
-returns-2 c = 
+returns-2 c =
     let look = c .before .before in
     look .before .before .loop .inv .1 _ (stops (look .before .loop-test .taken) (sym (look .look-at .ensures) ∙ c .enum-told2 .given .1))
 
@@ -66,14 +65,14 @@ above-of-requires-2 : tie.Need-above-of-requires-2 Inv-loop μ-loop
 above-of-requires-2 c κs = search needs
 
 loop-less : tie.Need-loop-less Inv-loop μ-loop
-loop-less c = 
+loop-less c =
     let look = c .before .before .before .before in
     let start = look .before .before .before .before .before in
     let up = start .pre .1 .1 (look .before .before .loop .x) (look .before .loop-test .taken) in
     omega (arith, c .above-of2 .ensures .0)
 
 loop-again : tie.Need-loop-again Inv-loop μ-loop
-loop-again c = 
+loop-again c =
     let look = c .before .before .before .before in
     let start = look .before .before .before .before .before in
     let a = start .args in

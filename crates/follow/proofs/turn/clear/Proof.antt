@@ -1,41 +1,37 @@
+-- `follow::turn::clear` meets its contract. Assumes nothing.
+use Prim.Native.Nat.{_≤_, _-_, max}
+use borrow.Author.Needs.{needs}
+use Rattle.follow.specs.Counts.{Cleared}
+use Rattle.follow.proofs.Tests.{cleared-none, cleared-more, cleared-all}
 use Rattle.follow.proofs.turn.clear.Statement.{statement}
 use Rattle.follow.proofs.turn.clear.Tie as tie
-use Rattle.follow.proofs.turn.clear.Reads as reads
-use Rattle.follow.proofs.turn.clear.Lts as lts
 
 abbrev Inv-loop : tie.InvT-loop
-Inv-loop counts₀ from to j₀ counts j = ?
+Inv-loop counts₀ from to j₀ counts j = (from ≤ j) × (j ≤ max from to) × Cleared from j counts₀ counts
 
 abbrev μ-loop : tie.MeasureT-loop
-μ-loop counts₀ from to j₀ counts j = ?
+μ-loop counts₀ from to j₀ counts j = to - j
 
--- src/turn.rt:56:5
 loop-holds : tie.Need-loop-holds Inv-loop μ-loop
-loop-holds c = ?
+loop-holds c = (search needs, search needs, cleared-none _ _)
 
--- src/turn.rt:57:9
 mul-counts : tie.Need-mul-counts Inv-loop μ-loop
-mul-counts c = ?
+mul-counts c = search needs
 
--- src/turn.rt:57:9
 element-write-counts : tie.Need-element-write-counts Inv-loop μ-loop
-element-write-counts c = ?
+element-write-counts c = search needs
 
--- src/turn.rt:58:9
 add-j : tie.Need-add-j Inv-loop μ-loop
-add-j c = ?
+add-j c = search needs
 
--- src/turn.rt:56:5
 loop-less : tie.Need-loop-less Inv-loop μ-loop
-loop-less c = ?
+loop-less c = search needs
 
--- src/turn.rt:56:5
 loop-again : tie.Need-loop-again Inv-loop μ-loop
-loop-again c = ?
+loop-again c = (search needs, search needs, cleared-more _ _ _ _ (c .before .loop .inv .0) (c .before .loop .inv .2))
 
--- src/turn.rt:51:1
 returns : tie.Need-returns Inv-loop μ-loop
-returns c = ?
+returns c = cleared-all _ _ _ _ _ (c .loop-test .left) (c .before .loop .inv .1) (c .before .loop .inv .2)
 
 pub clear-spec : {M : Type 1} → statement M
 clear-spec =

@@ -1,50 +1,40 @@
+-- `follow::turn::mark_at` meets its contract. Assumes nothing.
+use mathlib.Core.Path.{sym, _∙_}
+use native.Mathlib.Omega.{arith}
 use borrow.Author.Needs.{needs}
+use Rattle.follow.proofs.Tests.{marked-there, marked-not}
 use Rattle.follow.proofs.turn.mark_at.Statement.{statement}
 use Rattle.follow.proofs.turn.mark_at.Tie as tie
-use Rattle.follow.proofs.turn.mark_at.Reads as reads
-use Rattle.follow.proofs.turn.mark_at.Lts as lts
-use Rattle.follow.proofs.table.rank_of.Reads as rank-of-reads
-use Rattle.procedure.proofs.entry.kind_of.Reads as kind-of-reads
 
--- src/turn.rt:94:23
 mul-kind-of : tie.Need-mul-kind-of
 mul-kind-of c = search needs
 
--- src/turn.rt:94:23
 element-copy-out-kind-of : tie.Need-element-copy-out-kind-of
 element-copy-out-kind-of c = search needs
 
--- src/turn.rt:94:8
 kind-of-requires : tie.Need-kind-of-requires
 kind-of-requires c κs = search needs
 
--- src/turn.rt:95:9
 returns : tie.Need-returns
-returns c = ?
+returns c = let a = c .before .before .before .args in marked-not (a .nodes .now) (a .plan .now) _ (a .y) (λ e. c .if1 .taken (c .before .kind-of .ensures ∙ e))
 
--- src/turn.rt:97:31
 mul-rank-of : tie.Need-mul-rank-of
 mul-rank-of c = search needs
 
--- src/turn.rt:97:31
 element-copy-out-rank-of : tie.Need-element-copy-out-rank-of
 element-copy-out-rank-of c = search needs
 
--- src/turn.rt:97:9
 rank-of-requires : tie.Need-rank-of-requires
 rank-of-requires c κs = search needs
 
--- src/turn.rt:98:5
 mul-counts : tie.Need-mul-counts
 mul-counts c = search needs
 
--- src/turn.rt:98:5
 element-write-counts : tie.Need-element-write-counts
-element-write-counts c = ?
+element-write-counts c = let start = c .before .before .before .before .before in omega (arith, c .rank-of .ensures .0, start .pre .1 (sym (c .before .before .before .kind-of .ensures) ∙ c .before .before .if1 .left))
 
--- src/turn.rt:89:1
 returns-2 : tie.Need-returns-2
-returns-2 c = ?
+returns-2 c = let a = c .before .before .before .before .before .args in marked-there (a .nodes .now) (a .plan .now) (a .counts .now) (a .y) _ (sym (c .before .before .before .kind-of .ensures) ∙ c .before .before .if1 .left) (c .rank-of .ensures .0)
 
 pub mark-at-spec : {M : Type 1} → statement M
 mark-at-spec =

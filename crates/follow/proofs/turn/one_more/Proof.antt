@@ -1,44 +1,44 @@
+-- `follow::turn::one_more` meets its contract. Assumes nothing.
+use mathlib.Core.Path.{sym, subst, _∙_}
+use Prim.Native.Nat.{ℕ, _≤_, _<_}
 use borrow.Author.Needs.{needs}
+use Rattle.follow.proofs.Tests.{one-more-endless, one-more-below, one-more-full}
 use Rattle.follow.proofs.turn.one_more.Statement.{statement}
 use Rattle.follow.proofs.turn.one_more.Tie as tie
-use Rattle.follow.proofs.turn.one_more.Reads as reads
-use Rattle.follow.proofs.turn.one_more.Lts as lts
-use Rattle.follow.proofs.turn.cap.Reads as cap-reads
-use Rattle.follow.proofs.turn.up_to.Reads as up-to-reads
-use Rattle.procedure.proofs.entry.lower_of.Reads as lower-of-reads
-use Rattle.procedure.proofs.entry.upper_of.Reads as upper-of-reads
 
--- src/turn.rt:40:9
 upper-of-requires : tie.Need-upper-of-requires
 upper-of-requires c κs = search needs
 
--- src/turn.rt:42:38
 lower-of-requires : tie.Need-lower-of-requires
 lower-of-requires c κs = search needs
 
--- src/turn.rt:42:25
 cap-requires : tie.Need-cap-requires
 cap-requires c κs = search needs
 
--- src/turn.rt:42:9
 up-to-requires : tie.Need-up-to-requires
 up-to-requires c κs = search needs
 
--- src/turn.rt:42:9
 returns : tie.Need-returns
-returns c = ?
+returns c =
+    let at = c .before .before .before .before in
+    let a = at .before .args in
+    one-more-endless (a .empties) _ _ (a .c) _ _ _ (sym (at .upper-of .ensures) ∙ c .before .before .before .if1 .taken) (c .before .before .lower-of .ensures)
+    (c .before .cap .ensures) (c .up-to .ensures)
 
--- src/turn.rt:45:16
 add-result : tie.Need-add-result
 add-result c = search needs
 
--- src/turn.rt:45:9
 returns-2 : tie.Need-returns-2
-returns-2 c = ?
+returns-2 c =
+    let upper = c .before .before .upper-of .ensures in
+    let a = c .before .before .before .args in
+    one-more-below (a .empties) _ _ (a .c) (λ e. c .before .if1 .left (upper ∙ e)) (subst (λ (u : ℕ). a .c < u) upper (c .if2 .taken))
 
--- src/turn.rt:37:1
 returns-3 : tie.Need-returns-3
-returns-3 c = ?
+returns-3 c =
+    let upper = c .before .before .upper-of .ensures in
+    let a = c .before .before .before .args in
+    one-more-full (a .empties) _ _ (a .c) (λ e. c .before .if1 .left (upper ∙ e)) (subst (λ (u : ℕ). u ≤ a .c) upper (c .if2 .left))
 
 pub one-more-spec : {M : Type 1} → statement M
 one-more-spec =

@@ -1,0 +1,314 @@
+"""Counts what each call of the library costs, beside libxml2, and holds it to the targets.
+
+Every figure is a number of x86-64 instructions, the difference of two runs; only the stack is in bytes. What
+a call gives is compared with what it must give: a wrong answer has no figure. A call that the archive does
+not have yet is not measured, and its rows say so. The exit status is 0 if no target is missed, 1 if one is or
+a call answers wrongly, 2 if nothing could be measured.
+
+    bench.py [ARCHIVE]    an archive in place of the one that rt makes
+"""
+import platform
+import subprocess
+import sys
+from pathlib import Path
+
+import procedures
+
+TOP = Path(__file__).resolve().parent.parent
+BUILD = TOP / "build" / "bench"
+FILES = BUILD / "files"
+ARCHIVE = TOP / "target" / "staticlib" / "libseqp.a"
+CRATE = "seqp"
+
+COMPILER = "x86_64-linux-gnu-gcc"
+COMPILER_PACKAGES = {"x86_64": "gcc,libc6-dev"}
+CROSS_PACKAGES = "gcc-x86-64-linux-gnu,libc6-dev-amd64-cross"
+
+# The ratios to libxml2 that are asked for, by procedure; a procedure without one is shown and not judged.
+JUDGE_TARGETS = {**dict.fromkeys(["P6", "P7", "P8", "P10"], "1/5"), **dict.fromkeys(["P1", "P4"], "1/3")}
+ONE_EVENT_TARGETS = {**dict.fromkeys(["P6", "P7", "P8", "P10"], "1/3"), **dict.fromkeys(["P1", "P4"], "1/2")}
+EVENT_TARGETS = dict.fromkeys(["P3", "P6", "P7", "P9"], "1")
+# Twice the nodes may cost so many times as much.
+DOUBLING_TARGET = "2.2"
+
+# libxml2's cost of a repetition settles only after the first, when its memory is used again.
+LIBXML2_REPEATS = 10
+# A shorter run says nothing on the cost of an event in bulk.
+LEAST_BULK = 4096
+
+
+class Failed(Exception):
+    """Why a figure cannot be had."""
+
+
+def say(text):
+    print(text, flush=True)
+
+
+def command(*words):
+    done = subprocess.run([str(word) for word in words], cwd=TOP, stdin=subprocess.DEVNULL)
+    if done.returncode != 0:
+        raise Failed(f"{words[0]} ended with status {done.returncode}")
+
+
+def output(*words):
+    """What a command writes on standard output and on standard error."""
+    done = subprocess.run([str(word) for word in words], cwd=TOP, stdin=subprocess.DEVNULL, capture_output=True)
+    if done.returncode != 0:
+        raise Failed(f"{words[0]} {words[1]}: {done.stderr.decode(errors='replace').strip()}")
+    return done.stdout, done.stderr.decode()
+
+
+def counted(program, *words):
+    """How many instructions a run of a program takes, and what it writes."""
+    written, errors = output("scripts/insn", program, *words)
+    return int(errors.split()[-1]), written
+
+
+def file_of(name, kind):
+    return (FILES / f"{name}.{kind}").relative_to(TOP)
+
+
+# Building.
+
+
+def build_archive():
+    """Has rt prove and make the archive, where the crate is there."""
+    if not (TOP / "crates" / CRATE).is_dir():
+        return None
+    say(f"proving and making the archive of {CRATE}")
+    command("rt", "staticlib", CRATE)
+    return ARCHIVE
+
+
+def build_measure(archive):
+    program = BUILD / "measure"
+    command(COMPILER, "-static", "-O2", "-Wall", "-Wextra", "-Iinclude", "bench/measure.c",
+            *(["-Wl,--whole-archive", archive, "-Wl,--no-whole-archive"] if archive else []), "-o", program)
+    return program
+
+
+def build_libxml2():
+    """The libraries that libxml2 reads compressed files and foreign letters with are not linked: nothing calls them."""
+    command("scripts/libxml2")
+    program, root = BUILD / "libxml2", "build/libxml2/usr"
+    command(COMPILER, "-static", "-O2", "-Wall", "-Wextra", f"-I{root}/include/libxml2", f"-I{root}/include",
+            "bench/libxml2.c", f"{root}/lib/x86_64-linux-gnu/libxml2.a", "-lm",
+            "-Wl,--unresolved-symbols=ignore-all,--no-warnings", "-o", program)
+    return program
+
+
+# Measuring.
+
+
+class Ours:
+    """The library's calls, as far as the archive has them."""
+
+    def __init__(self, program):
+        self.program = program
+        self.calls = output("scripts/run", program, "calls")[0].decode().split()
+        self.laid = {name: procedures.Laid(tree) for name, (tree, _) in procedures.ALL.items()}
+
+    def must_give(self, call, name, given):
+        """What the call prints where it does its work, from the start of the run."""
+        if call == "judge":
+            return b"0 0 0 0\n"
+        if call == "follow":
+            run = file_of(name, "run").read_bytes()[:given]
+            return b"0 %d %d\n" % (len(run), 0 if self.laid[name].is_word(run) else 1)
+        if call == "write":
+            record = file_of(name, "record").read_bytes() if given else b""
+            return b"0 %d\n" % len(record) + record
+        if call == "check":
+            return b"0 1\n"
+        return b"0 %d\n" % self.laid[name].first()
+
+    def arguments(self, call, name, given):
+        return file_of(name, "seqp"), file_of(name, "record" if call == "check" else "run"), given
+
+    def cost(self, call, name, given):
+        """The instructions of one call that is lent so many bytes of the run, or of the record."""
+        words = [call, *self.arguments(call, name, given)]
+        once, written = counted(self.program, *words, 1)
+        twice, again = counted(self.program, *words, 2)
+        if written != self.must_give(call, name, given) or again != written:
+            raise Failed(f"{call} of {name} gives {written[:40]!r}, not {self.must_give(call, name, given)[:40]!r}")
+        return twice - once
+
+    def stack(self, call, name, given):
+        return int(output("scripts/run", self.program, "stack", call, *self.arguments(call, name, given))[0])
+
+
+class Theirs:
+    """libxml2's automata; each figure is measured once."""
+
+    def __init__(self, program):
+        self.program = program
+        self.version = output("scripts/run", program, "version")[0].decode().strip()
+        self.known = {}
+
+    def cost(self, what, name, repeats):
+        if (what, name) not in self.known:
+            words = [self.program, what, file_of(name, "seqp"), file_of(name, "run")]
+            first, last = counted(*words, 1)[0], counted(*words, 1 + repeats)[0]
+            self.known[what, name] = (last - first) / repeats
+        return self.known[what, name]
+
+    def compile(self, name):
+        return self.cost("compile", name, LIBXML2_REPEATS)
+
+    def push(self, name):
+        return self.cost("push", name, 1) / file_of(name, "run").stat().st_size
+
+
+# The table.
+
+HEADINGS = ("what", "procedure", "ours", "libxml2", "ratio", "target", "verdict")
+WIDTHS = (28, 13, 11, 11, 7, 7, 0)
+NOT_THERE = "not there yet"
+
+
+def line(cells):
+    return "".join(
+        cell.ljust(width) if i in (0, 1) or width == 0 else cell.rjust(width) + " " * (i == 5) * 2
+        for i, (cell, width) in enumerate(zip(cells, WIDTHS))).rstrip()
+
+
+def figure(value):
+    return "-" if value is None else f"{value:,.0f}" if value >= 1000 else f"{value:,.1f}".removesuffix(".0")
+
+
+def value_of(target):
+    over, _, under = target.partition("/")
+    return float(over) / float(under or 1)
+
+
+class Table:
+    """Prints a row as soon as it is measured, and counts the verdicts."""
+
+    def __init__(self):
+        self.met = self.missed = self.absent = self.wrong = 0
+        say(line(HEADINGS))
+
+    def row(self, what, name, ours, against, target=None, theirs=None):
+        """A row; ours is measured here, and held to what it is compared with."""
+        ratio, verdict = "", ""
+        try:
+            mine = ours()
+        except Failed as reason:
+            self.wrong += 1
+            mine, verdict = None, f"FAILED: {reason}"
+        if mine is not None and against:
+            ratio = f"{mine / against:.3f}"
+        if mine is not None and against and target:
+            verdict = self.judged(mine <= value_of(target) * against)
+        say(line((what, name, figure(mine), figure(theirs), ratio, target or "", verdict)))
+        return mine
+
+    def row_not_there(self, what, name, target=None, theirs=None):
+        self.absent += 1
+        say(line((what, name, "-", figure(theirs), "", target or "", NOT_THERE)))
+
+    def judged(self, held):
+        self.met, self.missed = self.met + held, self.missed + (not held)
+        return "met" if held else "MISSED"
+
+    def end(self):
+        say("")
+        say(f"{self.met} targets met, {self.missed} missed, {self.wrong} figures failed, "
+            f"{self.absent} rows without a call to measure")
+        return 1 if self.missed or self.wrong else 2 if self.met == 0 else 0
+
+
+class Bench:
+    def __init__(self, ours, theirs):
+        self.ours, self.theirs, self.table = ours, theirs, Table()
+
+    def compare(self, call, what, name, ours, theirs, target):
+        if call in self.ours.calls:
+            self.table.row(what, name, ours, theirs, target, theirs)
+        else:
+            self.table.row_not_there(what, name, target, theirs)
+
+    def judge(self):
+        for name in procedures.NAMED:
+            self.compare("judge", "Judge a file", name, lambda: self.ours.cost("judge", name, 0),
+                         self.theirs.compile(name), JUDGE_TARGETS.get(name))
+
+    def follow_one(self):
+        for name in procedures.NAMED:
+            self.compare("follow", "Follow one event", name, lambda: self.ours.cost("follow", name, 1),
+                         self.theirs.compile(name) + self.theirs.push(name), ONE_EVENT_TARGETS.get(name))
+
+    def each_event(self, call, what, cost):
+        for name, (_, run) in procedures.NAMED.items():
+            if len(run) >= LEAST_BULK:
+                self.compare(call, what, name, lambda: cost(name, len(run)) / len(run),
+                             self.theirs.push(name), EVENT_TARGETS.get(name))
+
+    def in_bulk(self):
+        def beyond_the_call(name, length):
+            return self.ours.cost("follow", name, length) - self.ours.cost("follow", name, 0)
+
+        self.each_event("follow", "Follow in bulk, an event", beyond_the_call)
+        self.each_event("write", "Write, an event", lambda name, _: self.ours.cost("write", name, "all"))
+        self.each_event("check", "Check, an event", lambda name, _: self.ours.cost("check", name, "all"))
+
+    def growth(self):
+        """What a call costs that has little to do besides reading the file, as the file grows."""
+        for call, what, given in (("judge", "Judge", 0), ("follow", "Follow one event", 1),
+                                  ("write", "Write no event", 0), ("check", "Check no item", 0),
+                                  ("prompt", "Prompt", 0)):
+            for shape in procedures.SHAPES:
+                self.growth_of(call, f"{what}, growth", given, shape)
+
+    def growth_of(self, call, what, given, shape):
+        before = None
+        for nodes in procedures.SIZES:
+            name, target = f"{shape} {nodes}", DOUBLING_TARGET if nodes != procedures.SIZES[0] else None
+            if call in self.ours.calls:
+                before = self.table.row(what, name, lambda: self.ours.cost(call, f"{shape}{nodes}", given),
+                                        before, target)
+            else:
+                self.table.row_not_there(what, name, target)
+
+    def stack(self):
+        for call in ("judge", "follow", "write", "check", "prompt"):
+            what, name = f"{call.capitalize()}, stack in bytes", "worst chain"
+            if call in self.ours.calls:
+                self.table.row(what, name, lambda: self.worst_stack(call), None)
+            else:
+                self.table.row_not_there(what, name)
+
+    def worst_stack(self, call):
+        longest = procedures.SIZES[-1]
+        return max(self.ours.stack(call, f"{shape}{longest}", "all") for shape in ("left", "right"))
+
+    def run(self):
+        self.judge()
+        self.follow_one()
+        self.in_bulk()
+        self.growth()
+        self.stack()
+        return self.table.end()
+
+
+def main():
+    command("scripts/need", f"{COMPILER}={COMPILER_PACKAGES.get(platform.machine(), CROSS_PACKAGES)}")
+    say("making the procedures, their runs and their records")
+    procedures.write_all(FILES)
+    archive = Path(sys.argv[1]).resolve() if len(sys.argv) > 1 else build_archive()
+    ours = Ours(build_measure(archive))
+    theirs = Theirs(build_libxml2())
+    say("calls in the archive: " + (", ".join(ours.calls) or "none") if archive else "there is no archive yet")
+    say(f"libxml2 {theirs.version}")
+    say("")
+    return Bench(ours, theirs).run()
+
+
+if __name__ == "__main__":
+    try:
+        sys.exit(main())
+    except (Failed, OSError) as reason:
+        say(f"bench: {reason}")
+        sys.exit(2)

@@ -1,0 +1,200 @@
+/*
+ * One call of the library, made again and again, so that its instructions can be counted.
+ *
+ *     measure calls                            prints the calls that the archive has, one a line
+ *     measure CALL FILE INPUT BYTES REPEATS    makes the call so often and prints what it gave the last time
+ *     measure stack CALL FILE INPUT BYTES      makes it once and prints how many bytes of stack it touched
+ *
+ * CALL is judge, follow, write, check or prompt. INPUT is the run, for check the record; its first BYTES bytes
+ * are lent, or all of it ("all"). Two runs that differ in REPEATS alone differ by what the calls cost, the
+ * handing over of the arguments included. A result is the answer, then the numbers in the header's order; for
+ * write the record follows on the next line.
+ */
+#include <stdint.h>
+#include <stdio.h>
+#include <stdlib.h>
+#include <string.h>
+#include <ucontext.h>
+
+#include "input.h"
+#include "seqp.h"
+
+/* A call that the archive does not have yet is null here, and the program links all the same. */
+#pragma weak seq_judge
+#pragma weak seq_follow
+#pragma weak seq_write
+#pragma weak seq_check
+#pragma weak seq_prompt
+
+enum {
+    MOST_REPEATS = 16,
+    SPACE_BYTES = 1 << 20,
+    STACK_BYTES = 1 << 24,
+    PAINT = 0xa5
+};
+
+static struct input file, lent;
+static uint8_t states[MOST_REPEATS][SEQ_STATE_BYTES]; /* each call has its own start */
+static uint8_t space[SPACE_BYTES];
+static _Alignas(64) uint8_t painted[STACK_BYTES];
+
+static uint32_t answer, node, kind, code, verdict, yes;
+static uint64_t taken, length, set;
+
+static void judge(uint8_t *state)
+{
+    (void)state;
+    answer = seq_judge(file.bytes, file.length, &node, &kind, &code);
+}
+
+static void follow(uint8_t *state)
+{
+    answer = seq_follow(file.bytes, file.length, state, SEQ_STATE_BYTES, lent.bytes, lent.length, &taken, &verdict);
+}
+
+static void write_record(uint8_t *state)
+{
+    (void)state;
+    answer = seq_write(file.bytes, file.length, lent.bytes, lent.length, space, sizeof space, &length);
+}
+
+static void check(uint8_t *state)
+{
+    (void)state;
+    answer = seq_check(file.bytes, file.length, lent.bytes, lent.length, &yes);
+}
+
+static void prompt(uint8_t *state)
+{
+    answer = seq_prompt(file.bytes, file.length, state, SEQ_STATE_BYTES, &set);
+}
+
+static void print_judge(void)
+{
+    printf("%u %u %u %u\n", answer, node, kind, code);
+}
+
+static void print_follow(void)
+{
+    printf("%u %llu %u\n", answer, (unsigned long long)taken, verdict);
+}
+
+static void print_write(void)
+{
+    printf("%u %llu\n", answer, (unsigned long long)length);
+    fwrite(space, 1, length <= sizeof space ? length : 0, stdout);
+}
+
+static void print_check(void)
+{
+    printf("%u %u\n", answer, yes);
+}
+
+static void print_prompt(void)
+{
+    printf("%u %llu\n", answer, (unsigned long long)set);
+}
+
+typedef void (*function)(void);
+
+static const struct call {
+    const char *name;
+    function in_archive;
+    void (*make)(uint8_t *state);
+    void (*print)(void);
+} calls[] = {
+    {"judge", (function)seq_judge, judge, print_judge},
+    {"follow", (function)seq_follow, follow, print_follow},
+    {"write", (function)seq_write, write_record, print_write},
+    {"check", (function)seq_check, check, print_check},
+    {"prompt", (function)seq_prompt, prompt, print_prompt},
+};
+enum { CALLS = sizeof calls / sizeof calls[0] };
+
+static void fail(const char *why)
+{
+    fprintf(stderr, "measure: %s\n", why);
+    exit(2);
+}
+
+static const struct call *call_named(const char *name)
+{
+    for (int i = 0; i < CALLS; i++)
+        if (strcmp(calls[i].name, name) == 0 && calls[i].in_archive != NULL)
+            return &calls[i];
+    fail("the archive has no such call");
+    return NULL;
+}
+
+static int print_calls(void)
+{
+    for (int i = 0; i < CALLS; i++)
+        if (calls[i].in_archive != NULL)
+            puts(calls[i].name);
+    return 0;
+}
+
+static void read_lent(const char *file_path, const char *input_path, const char *bytes)
+{
+    file = read_input(file_path);
+    lent = read_input(input_path);
+    if (strcmp(bytes, "all") == 0)
+        return;
+    size_t wanted = strtoul(bytes, NULL, 10);
+    if (wanted > lent.length)
+        fail("the input is shorter");
+    lent.length = wanted;
+}
+
+static int repeat(const struct call *call, int repeats)
+{
+    if (repeats < 1 || repeats > MOST_REPEATS)
+        fail("so many repeats are not provided for");
+    for (int i = 0; i < repeats; i++)
+        call->make(states[i]);
+    call->print();
+    return 0;
+}
+
+static const struct call *on_paint;
+static uint8_t *top;
+
+static void make_on_paint(void)
+{
+    top = __builtin_frame_address(0);
+    on_paint->make(states[0]);
+}
+
+/* Makes the call on a stack of one colour, and looks how far down the colour is gone. */
+static int print_stack(const struct call *call)
+{
+    static ucontext_t here, there;
+    memset(painted, PAINT, sizeof painted);
+    getcontext(&there);
+    there.uc_stack.ss_sp = painted;
+    there.uc_stack.ss_size = sizeof painted;
+    there.uc_link = &here;
+    on_paint = call;
+    makecontext(&there, make_on_paint, 0);
+    swapcontext(&here, &there);
+
+    const uint8_t *lowest = painted;
+    while (*lowest == PAINT)
+        lowest++;
+    printf("%ld\n", (long)(top - lowest));
+    return 0;
+}
+
+int main(int argc, char **argv)
+{
+    if (argc == 2 && strcmp(argv[1], "calls") == 0)
+        return print_calls();
+    if (argc != 6)
+        fail("calls | CALL FILE INPUT BYTES REPEATS | stack CALL FILE INPUT BYTES");
+    if (strcmp(argv[1], "stack") == 0) {
+        read_lent(argv[3], argv[4], argv[5]);
+        return print_stack(call_named(argv[2]));
+    }
+    read_lent(argv[2], argv[3], argv[4]);
+    return repeat(call_named(argv[1]), atoi(argv[5]));
+}

@@ -1,0 +1,4 @@
+-- What the contracts of the judge cite.
+pub mod Admission
+pub mod Lowest
+pub mod Sets

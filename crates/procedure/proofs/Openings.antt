@@ -1,0 +1,73 @@
+-- From what is found in the entries to what the meaning says of the file. Assumes nothing.
+use mathlib.Core.Path.{_≡_, sym, ap, subst, _∙_}
+use mathlib.Core.List.{List}
+use Prim.Native.Nat.{ℕ, suc, _-_, _≤_, _<_}
+use native.Mathlib.Omega.{arith}
+use Rattle.meaning.specs.Node.{Node, InOrder, InTable, repeatsBelow}
+use Rattle.meaning.specs.File.{Framed, Refused, TableBelow, WellFormed, by-order, by-record, by-repeats, by-root, count, nodeAt}
+use Rattle.meaning.specs.declared.Refusal.the-variants.{Order, Record, Repeats}
+use Rattle.meaning.proofs.Files.{root-size, stands-same}
+use Rattle.procedure.specs.Entry.{Tied, held}
+use Rattle.procedure.specs.Opening.{Filled}
+use Rattle.procedure.specs.Parts.{Begins, OrderTested, broken, late, whole}
+use Rattle.procedure.proofs.Counting.{same-count}
+
+-- what is found is no node: the nodes are one part
+pub tested-whole : {g : ℕ → Node} {n i : ℕ} → OrderTested g n i → n ≤ i → Begins g 0 (n - 1)
+tested-whole (broken i l below bad) h = absurd (omega arith)
+tested-whole (late i e below bad) h = absurd (omega arith)
+tested-whole (whole b) h = b
+
+-- what is in order among some nodes is so among nodes that are equal up to it
+order-same : (g h : ℕ → Node) (n : ℕ) → ((i : ℕ) → i < n → g i ≡ h i) → (i : ℕ) → i < n → InOrder g i → InOrder h i
+order-same g h n same i l o = (o .0, o .1, stands-same g h n (o .0) (o .1) same (omega (arith, o .3)) (o .2), o .3)
+
+module _ (f nodes : List ℕ) (n : ℕ) (framed : Framed f) (here : n ≡ count f) (tied : Tied f nodes n) where
+  pub off-table : (i : ℕ) → i < n → ((j : ℕ) → j < i → InTable (held nodes j)) → ¬ InTable (held nodes i) → Refused f (Record i)
+  off-table i l below bad =
+      by-record i framed (omega arith) (λ j k. subst InTable (tied j (omega arith)) (below j k)) (λ t. bad (subst InTable (sym (tied i l)) t))
+
+  -- every record keeps to the table
+  module _ (table : (j : ℕ) → j < n → InTable (held nodes j)) where
+    kept : TableBelow f (count f)
+    kept j l = subst InTable (tied j (omega arith)) (table j (omega arith))
+
+    in-file : (i : ℕ) → i < n → InOrder (held nodes) i → InOrder (nodeAt f) i
+    in-file = order-same (held nodes) (nodeAt f) n tied
+
+    in-array : (i : ℕ) → i < n → InOrder (nodeAt f) i → InOrder (held nodes) i
+    in-array = order-same (nodeAt f) (held nodes) n (λ j l. sym (tied j l))
+
+    pub out-of-order : {i : ℕ} → OrderTested (held nodes) n i → i < n → Refused f (Order i)
+    out-of-order (broken i l below bad) h =
+        by-order i framed kept (omega arith) (λ j k. in-file j (omega arith) (below j k)) (λ o. bad (in-array i l o))
+    out-of-order (late i e below bad) h =
+        by-root i framed kept (λ j k. in-file j (omega arith) (below j (omega arith)))
+        (λ d lists. bad
+        (let r = root-size 0 d in
+        (d, stands-same (nodeAt f) (held nodes) n 0 d (λ j k. sym (tied j k)) (omega (arith, lists .1)) (lists .0), omega (arith, lists .1))))
+        (e ∙ here)
+    out-of-order (whole b) h = absurd (omega arith)
+
+    -- the nodes are one part
+    module _ (b : Begins (held nodes) 0 (n - 1)) where
+      formed : WellFormed f (b .0)
+      formed =
+          let r = root-size 0 (b .0) in
+          let first = framed .2 .0 in
+          record {
+            framed = framed;
+            table = kept;
+            lists = (stands-same (held nodes) (nodeAt f) n 0 (b .0) tied (omega (arith, b .2)) (b .1), omega (arith, b .2));
+          }
+
+      pub too-many : (i : ℕ) → i < n → (repeatsBelow (held nodes) i ≡ 32) × (repeatsBelow (held nodes) (suc i) ≡ 33) → Refused f (Repeats i)
+      too-many i l p =
+          let same = same-count (held nodes) (nodeAt f) n tied in
+          by-repeats (b .0) i formed (omega arith) (sym (same i (omega arith)) ∙ p .0) (sym (same (suc i) l) ∙ p .1)
+
+      pub filled : repeatsBelow (held nodes) n ≤ 32 → Filled f nodes n
+      filled few =
+          let same = same-count (held nodes) (nodeAt f) n tied n (omega arith) ∙ ap (repeatsBelow (nodeAt f)) here in
+          let within = subst (λ (k : ℕ). k ≤ 32) same few in
+          record { counted = here; expr = b .0; holds = record { formed = formed; few = within }; tied = tied }

@@ -1,0 +1,148 @@
+/*
+ * seqp.h: judge a procedure, follow runs against it, write and check records, prompt the operator.
+ *
+ * Link with libseqp.a (x86-64). Example, from the start of a run:
+ *
+ *     uint8_t state[SEQ_STATE_BYTES] = {0};
+ *     uint64_t taken;
+ *     uint32_t verdict;
+ *     if (seq_follow(file, file_len, state, sizeof state, &key, 1, &taken, &verdict) == SEQ_DONE
+ *         && verdict == SEQ_COMPLETE) ...
+ *
+ * What every call needs
+ *   - Each slice is a pointer and a length in bytes, valid for that length: readable, and writable
+ *     where the parameter is not const. A slice may be empty; its pointer is then any that is not null.
+ *   - Each result parameter points to one writable number, aligned as its type asks.
+ *   - The slices and results lent to one call do not overlap each other.
+ *   Nothing is asked of what the bytes hold: every file, state, run and record gets its answer.
+ *
+ * What every call gives
+ *   - The answer, a number of the table below, as the function's value.
+ *   - Every result, also on a refusal: it is 0 there, but for the node, kind and code of seq_judge.
+ *   - On a refusal (an answer other than 0) a lent state and a record's space stay as they were.
+ *
+ * A call allocates nothing, keeps no pointer and has no memory between calls: calls may run on several
+ * threads at once, as long as none writes what another is lent.
+ */
+#ifndef SEQP_H
+#define SEQP_H
+
+#include <stddef.h>
+#include <stdint.h>
+
+#ifdef __cplusplus
+extern "C" {
+#endif
+
+/*
+ * The answers. The lowest number that applies is given. A call gives only those that are listed with it.
+ */
+enum seq_answer {
+    SEQ_DONE            = 0,  /* done */
+    SEQ_FILE_LENGTH     = 1,  /* file under 20 or over 8,204 bytes */
+    SEQ_LETTERS         = 2,  /* the four letters or the edition wrong */
+    SEQ_LAYOUT          = 3,  /* number of nodes or distance wrong, nodes longer than the file allows,
+                                 or text over 4,096 bytes */
+    SEQ_NODE            = 4,  /* a node record is malformed */
+    SEQ_ORDER           = 5,  /* postfix order broken, or the root not begun at node 0 */
+    SEQ_REPEATS         = 6,  /* more than 32 repeats */
+    SEQ_CONFLICT        = 7,  /* a conflict: the procedure is not strongly deterministic */
+    SEQ_STATE           = 8,  /* state not 66 bytes, or reached by no beginning of a word */
+    SEQ_RUN_LENGTH      = 9,  /* run over 65,536 events (seq_write) */
+    SEQ_RUN_INCOMPLETE  = 10, /* run not complete (seq_write) */
+    SEQ_SPACE           = 11  /* record longer than the space lent (seq_write) */
+};
+
+/* What seq_follow says of a run, with answer 0 only. */
+enum seq_verdict {
+    SEQ_COMPLETE   = 0, /* the run is a word of the procedure */
+    SEQ_UNFINISHED = 1, /* it begins a word and is none */
+    SEQ_BROKEN     = 2  /* the event after those taken does not continue it */
+};
+
+/* The conflicts that seq_judge names with answer 7. */
+enum seq_conflict {
+    SEQ_CONFLICT_CHOICE       = 1, /* choice: the firsts of the two children share a code */
+    SEQ_CONFLICT_FIRST_FIRST  = 2, /* sequence whose left has the empty word: the firsts share a code */
+    SEQ_CONFLICT_AFTER_FIRST  = 3, /* sequence: after of the left shares a code with first of the right */
+    SEQ_CONFLICT_REPEAT       = 4  /* repeat with upper at least 2: after and first of the body share one */
+};
+
+/*
+ * The state of a run, 66 bytes, all numbers 2 bytes little-endian:
+ *   byte 0    0 at the start, or else 1 + the event node reached;
+ *   byte 2    32 counters, for the repeats in rising node order: the number of blocks begun in the present
+ *             stay in that repeat, the current one included. 0 for a repeat that does not enclose the node
+ *             reached, and past the last repeat. Where a repeat has no upper bound its counter stops at the
+ *             larger of 1 and the lower bound (taken as 0 where the body has the empty word).
+ * A state of 66 zero bytes is the start of a run. It may be stored and moved between machines.
+ */
+#define SEQ_STATE_BYTES 66
+
+/*
+ * A record is a run with its blocks: items of 2 bytes, little-endian, node + 4,096 x mark.
+ */
+#define SEQ_ITEM_BYTES 2
+#define SEQ_MARK_EVENT 0
+#define SEQ_MARK_OPENING 1
+#define SEQ_MARK_CLOSING 2
+#define SEQ_MARK_UNIT 4096
+
+/* Limits of a procedure file and of a run to be written. A run holds one byte an event, its code. */
+#define SEQ_FILE_LEAST_BYTES 20
+#define SEQ_FILE_MOST_BYTES 8204
+#define SEQ_MOST_NODES 512
+#define SEQ_MOST_REPEATS 32
+#define SEQ_MOST_CODE 63
+#define SEQ_MOST_RUN 65536
+
+/*
+ * Judges a procedure file.
+ * Answers 0 to 7. *node is the node reported with 4 to 7, else 0; *kind (enum seq_conflict) and *code are
+ * those of the conflict with 7, else 0. With answer 0 no call refuses the file.
+ */
+uint32_t seq_judge(const uint8_t *file, size_t file_len, uint32_t *node, uint32_t *kind, uint32_t *code);
+
+/*
+ * Follows a run: takes the events up to the first that does not continue the run that reached the state.
+ * Answers 0 to 8. *taken is how many events were taken, *verdict an enum seq_verdict on the run that
+ * reached the given state followed by the events given. With answer 0 the state stands after the events
+ * taken, also on a break; a break is not kept in it, so a later call goes on from there. With no events
+ * the call reports on the state given and leaves it. The number of events is not limited. A code above 63
+ * never continues. Note that *verdict is 0 on a refusal too: look at the answer first.
+ */
+uint32_t seq_follow(const uint8_t *file, size_t file_len, uint8_t *state, size_t state_len,
+                    const uint8_t *events, size_t events_len, uint64_t *taken, uint32_t *verdict);
+
+/*
+ * Writes the record of a whole run, from its start, into the space lent.
+ * Answers 0 to 7 and 9 to 11. *length is the record's length in bytes; the space beyond it stays as it
+ * was, and on a refusal the whole space does. Room for 130 bytes an event is always enough: no event lies
+ * in more than 32 repeats, and so none has more than 65 items.
+ */
+uint32_t seq_write(const uint8_t *file, size_t file_len, const uint8_t *run, size_t run_len,
+                   uint8_t *space, size_t space_len, uint64_t *length);
+
+/*
+ * Checks a record.
+ * Answers 0 to 6; a conflict does not matter here. *yes is 1 if the bytes are the record of some run of
+ * the procedure, else 0 (an odd number of bytes is a 0). A record may have any length.
+ */
+uint32_t seq_check(const uint8_t *file, size_t file_len, const uint8_t *record, size_t record_len,
+                   uint32_t *yes);
+
+/*
+ * Prompts the operator: the codes that can come next, as a set.
+ * Answers 0 to 8. Bit c of *set is 1 exactly if code c can come next: at the start the codes that begin a
+ * word, else those of the event nodes that can directly follow the node reached, where a repeat whose upper
+ * bound is at least 2, or that has none, may end and go on after every block, whatever its count. The state
+ * is only read.
+ */
+uint32_t seq_prompt(const uint8_t *file, size_t file_len, const uint8_t *state, size_t state_len,
+                    uint64_t *set);
+
+#ifdef __cplusplus
+}
+#endif
+
+#endif
