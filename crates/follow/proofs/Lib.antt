@@ -12,3 +12,4 @@ mod StateBytes
 mod RightCounts
 mod Standing
 mod Reached
+mod SmallCounts

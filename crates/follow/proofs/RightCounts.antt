@@ -9,7 +9,7 @@ use borrow.Author.Tests.{le-leb, lt-leb, lt-ltb, le-ltb, eq-eqb, ne-eqb, eqb-tru
 use lib.Dec.{eqb, leb, ltb, eqb·suc-zero}
 use lib.ListN.{length, getD, List·getD-eq-default}
 use Rattle.meaning.specs.Expr.{Expr, empty, event, choice, sequence, repeat, Upper, upto, endless, Within, size}
-use Rattle.meaning.specs.Node.{Node, node, bound, Stands, isRepeat, repeatsBelow}
+use Rattle.meaning.specs.Node.{Node, node, bound, Stands, repeatsBelow}
 use Rattle.meaning.specs.Normal.{isZero, nullable, low}
 use Rattle.meaning.specs.State.{stop}
 use Rattle.meaning.proofs.Place.{Place, nodeOf, codeOf, Sound}
@@ -120,13 +120,7 @@ clear-more counts k j f h i a b =
 pub clear-all : (counts : List ℕ) (k j : ℕ) → length counts ≡ 32 → 32 ≤ j → ClearBelow counts k j → ClearFrom counts k
 clear-all counts k j long h f i a = ⊎-elim (λ l. f i a l) (λ l. List·getD-eq-default counts 0 {n = i} (omega arith)) (below-or-from i j)
 
--- ---- repeats among the nodes
-
-pub one-repeat : (m : Node) → kindOf m ≡ 4 → isRepeat m ≡ 1
-one-repeat (node k c x y z) e = rw (eq-eqb k 4 e)
-
-pub no-repeat : (m : Node) → ¬ (kindOf m ≡ 4) → isRepeat m ≡ 0
-no-repeat (node k c x y z) h = rw (ne-eqb k 4 h)
+-- ---- a counter and the blocks begun
 
 -- a number from 1 to the most counts the blocks begun, and those are so counted
 counter-blocks : (lower c : ℕ) (upper : Upper) → 1 ≤ c → c ≤ most lower upper → (j : ℕ) × Within (suc j) upper × (c ≡ stop lower upper (suc j))

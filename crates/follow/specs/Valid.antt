@@ -18,11 +18,11 @@ use Rattle.follow.specs.declared.valid.Read.the-variants.{Reached, Unrea
 use Rattle.follow.specs.StateBytes.{Decoded}
 use Rattle.follow.specs.Table.{startIn, emptyIn}
 use Rattle.follow.specs.Plan.{rankAt}
-use Rattle.follow.specs.Counts.{Marked}
+use Rattle.follow.specs.Counts.{Marked, Unmarked}
 
 -- the node and the counters are those of the spot
 abbrev pub AtSpot : (e : Expr) → Spot e → ℕ → List ℕ → Type 0
-AtSpot e start node counts = (node ≡ 0) × ((j : ℕ) → getD counts j 0 ≡ 0)
+AtSpot e start node counts = (node ≡ 0) × Unmarked counts
 AtSpot e (behind p) node counts = (node ≡ nodeOf 0 e p + 1) × Marked counts e p
 
 -- a run can stand at the node with the counters

@@ -1,13 +1,13 @@
 // Whether some run can stand where a state says: at the start, or just after an event with counters that are right for its node.
 ghost use mathlib.Core.Path.{_≡_};
-ghost use Prim.Native.Nat.{ℕ, _+_, _-_, _≤_, _<_};
+ghost use Prim.Native.Nat.{_+_, _-_, _≤_, _<_};
 ghost use lib.ListN.{length};
 ghost use Rattle.meaning.specs.Expr.{Expr, Bounded};
 ghost use Rattle.meaning.specs.Node.{isRepeat};
 ghost use Rattle.procedure.specs.Entry.{held, unpacked};
 ghost use Rattle.procedure.specs.Tests.{Decides};
 ghost use Rattle.follow.specs.Table.{startIn};
-ghost use Rattle.follow.specs.Plan.{rankAt, Ranked, Plans};
+ghost use Rattle.follow.specs.Plan.{rankAt, Ranked, Rises, Plans};
 ghost use Rattle.follow.specs.Valid.{mostOf, fitsIn, rightAt, AllRight, ClearFrom, CanStand, Small, ReadOf};
 use crate::state;
 use crate::table;
@@ -70,7 +70,7 @@ fn right_at(nodes: &[u64; 512], plan: &[u64; 512], counts: &[u16; 32], p: usize,
 // Whether it is so at each of n nodes.
 fn all_right(nodes: &[u64; 512], plan: &[u64; 512], n: usize, counts: &[u16; 32], p: usize) -> bool
     requires { ⌜ n ≤ 512 ⌝ }
-    requires { ⌜ ((y : ℕ) → y < n → Ranked (now nodes) (now plan) y) ⌝ }
+    requires { ⌜ Rises (now nodes) (now plan) n ⌝ }
     ensures { λ r. ⌜ Decides (AllRight (now (nodes .entry)) (now (plan .entry)) (now (counts .entry)) p n) r ⌝ }
 {
     let mut y = 0;

@@ -19,7 +19,7 @@ loop-holds : tie.Need-loop-holds Inv-loop μ-loop
 loop-holds c = (search needs, below-none _)
 
 right-at-requires : tie.Need-right-at-requires Inv-loop μ-loop
-right-at-requires c κs = (omega arith, c .before .before .pre .1 (c .before .loop .y) (c .loop-test .taken))
+right-at-requires c κs = (omega arith, c .before .before .pre .1 (c .before .loop .y) (c .loop-test .taken) .counted)
 
 add-y : tie.Need-add-y Inv-loop μ-loop
 add-y c = search needs

@@ -2,7 +2,8 @@
 use mathlib.Core.Path.{sym, _∙_}
 use native.Mathlib.Omega.{arith}
 use borrow.Author.Needs.{needs}
-use Rattle.follow.proofs.Standing.{one-node, plan-ranked, start-decided, not-past, not-event, not-right, right-decided}
+use Rattle.follow.proofs.Whole.{rises}
+use Rattle.follow.proofs.Standing.{one-node, start-decided, not-past, not-event, not-right, right-decided}
 use Rattle.follow.proofs.valid.is_reached.Statement.{statement}
 use Rattle.follow.proofs.valid.is_reached.Tie as tie
 
@@ -12,10 +13,12 @@ clear-from-requires c κs = c .before .pre .1
 returns : tie.Need-returns
 returns c = λ e w.
     let a = c .before .before .args in
-    start-decided w (a .counts .now) (a .node) (c .clear-from .result) (c .before .if1 .taken) (c .clear-from .ensures)
+    start-decided w (a .counts .now) (a .node) (c .clear-from .result) (c .before .before .pre .1) (c .before .if1 .taken) (c .clear-from .ensures)
 
 returns-2 : tie.Need-returns-2
-returns-2 c = λ e w. let a = c .before .before .args in not-past w (a .counts .now) (a .node) (c .before .if1 .left) (c .if2 .taken)
+returns-2 c = λ e w.
+    let a = c .before .before .args in
+    not-past w (a .counts .now) (a .node) (c .before .if1 .left) (c .if2 .taken)
 
 sub-p : tie.Need-sub-p
 sub-p c = search needs
@@ -38,7 +41,7 @@ returns-3 c = λ e w.
 all-right-requires : tie.Need-all-right-requires
 all-right-requires c κs =
     let plans = c .before .before .before .before .before .pre .0 .1 in
-    (plans .few, plan-ranked plans)
+    (plans .few, rises plans)
 
 repeats-of-requires : tie.Need-repeats-of-requires
 repeats-of-requires c κs =
@@ -55,7 +58,7 @@ returns-4 c = λ e w.
     let test = kind .before .before in
     let a = test .before .before .args in
     right-decided w (a .counts .now) (a .node) (call .all-right .result) (c .clear-from2 .result) (c .before .repeats-of .result)
-    (test .before .if1 .left) (test .if2 .left) (sym (kind .kind-of .ensures) ∙ call .before .if3 .left)
+    (test .before .before .pre .1) (test .before .if1 .left) (test .if2 .left) (sym (kind .kind-of .ensures) ∙ call .before .if3 .left)
     (c .before .before .if4 .taken) (call .all-right .ensures) (c .before .repeats-of .ensures) (c .clear-from2 .ensures)
 
 returns-5 : tie.Need-returns-5

@@ -4,7 +4,7 @@ use Prim.Native.Nat.{_-_}
 use native.Mathlib.Omega.{arith}
 use borrow.Author.Needs.{needs}
 use Rattle.procedure.specs.Entry.{held}
-use Rattle.follow.proofs.RightCounts.{one-repeat, no-repeat}
+use Rattle.follow.proofs.Links.{repeat-bit, other-bit}
 use Rattle.follow.proofs.valid.repeats_of.Statement.{statement}
 use Rattle.follow.proofs.valid.repeats_of.Tie as tie
 
@@ -37,14 +37,14 @@ returns c =
     let call = c .before in
     let start = call .before .before .before .before in
     let a = start .args in
-    omega (arith, call .before .before .rank-of .ensures .0, one-repeat (held (a .nodes .now) (a .n - 1)) (sym (call .kind-of .ensures) ∙ c .if1 .taken))
+    omega (arith, call .before .before .rank-of .ensures .0, repeat-bit (held (a .nodes .now) (a .n - 1)) (sym (call .kind-of .ensures) ∙ c .if1 .taken))
 
 returns-2 : tie.Need-returns-2
 returns-2 c =
     let call = c .before in
     let start = call .before .before .before .before in
     let a = start .args in
-    omega (arith, call .before .before .rank-of .ensures .0, no-repeat (held (a .nodes .now) (a .n - 1)) (λ e. c .if1 .left (call .kind-of .ensures ∙ e)))
+    omega (arith, call .before .before .rank-of .ensures .0, other-bit (held (a .nodes .now) (a .n - 1)) (λ e. c .if1 .left (call .kind-of .ensures ∙ e)))
 
 pub repeats-of-spec : {M : Type 1} → statement M
 repeats-of-spec =
