@@ -14,3 +14,7 @@ mod Lighting
 pub mod Continuing
 mod Running
 mod StateBytes
+mod RightCounts
+mod Standing
+mod Reached
+mod SmallCounts

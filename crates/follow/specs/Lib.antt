@@ -8,3 +8,4 @@ pub mod Step
 pub mod Near
 pub mod Run
 pub mod StateBytes
+pub mod Valid

@@ -8,3 +8,4 @@ mod near; // near.rt: which event nodes can directly follow one another in the l
 mod prompt; // prompt.rt: the codes to light
 pub mod run; // run.rt: a run of events
 pub mod state; // state.rt: where a run stands, and its bytes
+pub mod valid; // valid.rt: whether a run can stand there
