@@ -25,14 +25,11 @@ use Rattle.follow.specs.declared.climb.Turn.the-variants.{At, Ends, Stuc
 use Rattle.follow.specs.Plan.{aboveAt, beginsAt, startAt, rankAt, emptyAt, repeats, bit, Own, Planned, startsOf}
 use Rattle.follow.specs.Counts.{Clear, Held, Sets, done, next, Cleared, oneMore, raised, Turned}
 use Rattle.follow.specs.Climb.{moreOf, lookInto, lookRepeat, lookOf, Climbs, past, turns, stops, on}
+use Rattle.follow.proofs.Tests.{bit-one}
 use Rattle.follow.proofs.Beginnings.{Starts, does, does-not, Target, starts-by-test}
 use Rattle.follow.proofs.Counting.{Beside, Entered, clear-same, held-same, entered, rank-of-repeat, repeats-past}
 
 -- ---- the bounds as written, and what a stopped counter still tells
-
-bit-one : (b : Bool) → eqb (bit b) 1 ≡ b
-bit-one true = refl
-bit-one false = refl
 
 abbrev Bound : Bool → ℕ → Upper
 Bound none u = cond none endless (upto u)

@@ -18,8 +18,7 @@ use Rattle.procedure.specs.Entry.{held, kindOf, leftOf}
 use Rattle.follow.specs.Table.{aboveIn, beginsIn, startIn, rankIn, emptyIn, toldIn}
 use Rattle.follow.specs.Plan.{aboveAt, beginsAt, startAt, rankAt, emptyAt, bit, top, Own, Told, Planned, Plans, Leads, Rises}
 use Rattle.follow.specs.Filling.{Upon, UpTo, tell, linkWith, link, down}
-use Rattle.follow.proofs.Beginnings.{among}
-use Rattle.follow.proofs.Counting.{below-rises}
+use Rattle.follow.proofs.Tests.{bit-one}
 
 -- ---- an entry that is told of the nodes above
 
@@ -133,10 +132,6 @@ pub record DownTo (nodes p : List ℕ) (s : ℕ) (e : Expr) (a h : ℕ) : Type 0
 small-right : (b : Bool) (h y : ℕ) → h < 1024 → y < 1024 → cond b h y < 1024
 small-right true h y l m = l
 small-right false h y l m = m
-
-pub bit-one : (b : Bool) → eqb (bit b) 1 ≡ b
-bit-one true = refl
-bit-one false = refl
 
 pub root-from : (t : ℕ) (e : Expr) → t ≤ root t e
 root-from t empty = omega arith

@@ -8,4 +8,10 @@ mod Upward
 mod Whole
 mod Links
 mod Stepping
+mod StateBytes
+mod RightCounts
+mod Standing
+mod Reached
+mod SmallCounts
 mod Running
+mod Following

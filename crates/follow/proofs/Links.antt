@@ -6,8 +6,10 @@ use Prim.Native.Nat.{ℕ, suc, _+_, _-_, _≤_, _<_}
 use native.Mathlib.Omega.{arith}
 use borrow.Author.Tests.{eq-eqb, ne-eqb, lt-ltb, le-ltb}
 use lib.Dec.{eqb, ltb}
-use lib.ListN.{getD}
+use lib.ListN.{length, getD}
+use Rattle.meaning.specs.Expr.{Expr, size}
 use Rattle.meaning.specs.Node.{Node, node, isRepeat, repeatsBelow}
+use Rattle.meaning.proofs.Files.{root-size}
 use Rattle.procedure.specs.Entry.{held, kindOf, leftOf, lowerOf}
 use Rattle.follow.specs.Table.{emptyIn}
 use Rattle.follow.specs.Plan.{aboveAt, beginsAt, startAt, emptyAt}
@@ -50,7 +52,7 @@ module _ (m : Node) (p : List ℕ) (i r : ℕ) where
   pub empty-over : 2 ≤ kindOf m → r ≡ emptyOver m p i → r ≡ emptyWith m p i
   empty-over k e = left _ (1 - kindOf m) _ r (le-ltb (kindOf m) 2 k) e
 
-pub up-none : (nodes p : List ℕ) → (length-of : lib.ListN.length p ≡ 512) → UpTo nodes p 0
+pub up-none : (nodes p : List ℕ) → length p ≡ 512 → UpTo nodes p 0
 up-none nodes p l = record {
   ranks = λ j h. absurd (omega arith);
   from = λ j h. absurd (omega arith);
@@ -58,8 +60,8 @@ up-none nodes p l = record {
   long = l;
 }
   where
-    none : (s : ℕ) (d : Rattle.meaning.specs.Expr.Expr) → s + Rattle.meaning.specs.Expr.size d ≤ 0 → ⊥
-    none s d h = omega (arith, Rattle.meaning.proofs.Files.root-size s d)
+    none : (s : ℕ) (d : Expr) → s + size d ≤ 0 → ⊥
+    none s d h = omega (arith, root-size s d)
 
 -- ---- downward
 

@@ -11,8 +11,12 @@ use lib.Dec.{eqb, leb, ltb}
 use lib.ListN.{length, getD, set, length-set}
 use lib.Seq.{getD-set-other}
 use Rattle.procedure.specs.Entry.{held, kindOf, lowerOf, upperOf}
-use Rattle.follow.specs.Plan.{aboveAt, startAt, beginsAt, rankAt, emptyAt, startsOf}
+use Rattle.follow.specs.Plan.{aboveAt, startAt, beginsAt, rankAt, emptyAt, bit, startsOf}
 use Rattle.follow.specs.Counts.{marked, Sets, next, Cleared, oneMore, raised, Turned}
+
+pub bit-one : (b : Bool) → eqb (bit b) 1 ≡ b
+bit-one true = refl
+bit-one false = refl
 
 -- the first of two, by a test that holds; and the second, by one that does not
 pub taken : {A : Type 0} (b : Bool) (x y : A) → b ≡ true → x ≡ cond b x y

@@ -21,7 +21,7 @@ use Rattle.follow.specs.Table.{aboveIn, beginsIn, startIn, rankIn, empty
 use Rattle.follow.specs.Plan.{startAt, rankAt, emptyAt, bit, Own}
 use Rattle.follow.specs.Filling.{Upon, startOf, emptyOver, emptyOf, UpTo}
 use Rattle.follow.proofs.Beginnings.{among}
-use Rattle.follow.proofs.Downward.{bit-one}
+use Rattle.follow.proofs.Tests.{bit-one}
 
 -- ---- each node with children has them below it
 

@@ -5,4 +5,7 @@ pub mod Counts
 pub mod Climb
 pub mod Filling
 pub mod Step
+pub mod StateBytes
+pub mod Valid
 pub mod Run
+pub mod Batch

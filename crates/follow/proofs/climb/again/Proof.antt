@@ -1,6 +1,7 @@
-use Rattle.follow.proofs.Tests.{both-first, both-second}
+-- `follow::climb::again` meets its contract. Assumes nothing.
 use mathlib.Core.Path.{sym, _∙_}
 use borrow.Author.Needs.{needs}
+use Rattle.follow.proofs.Tests.{both-first, both-second}
 use Rattle.follow.proofs.climb.again.Statement.{statement}
 use Rattle.follow.proofs.climb.again.Tie as tie
 use Rattle.follow.proofs.climb.again.Reads as reads

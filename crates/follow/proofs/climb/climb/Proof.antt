@@ -1,12 +1,11 @@
-use Prim.Native.Nat.{ℕ}
-use mathlib.Core.Path.{subst}
-use Prim.Native.Nat.{_≤_, _-_}
+-- `follow::climb::climb` meets its contract. Assumes nothing.
+use mathlib.Core.Path.{subst, sym, _∙_}
+use Prim.Native.Nat.{ℕ, _≤_, _-_}
 use native.Mathlib.Omega.{arith}
 use borrow.Author.Needs.{needs}
-use Rattle.follow.specs.declared.climb.Turn.{Turn}
-use Rattle.follow.specs.Plan.{aboveAt}
 use Rattle.follow.specs.Climb.{Climbs, past, turns, stops, on}
-use mathlib.Core.Path.{sym, _∙_}
+use Rattle.follow.specs.Plan.{aboveAt}
+use Rattle.follow.specs.declared.climb.Turn.{Turn}
 use Rattle.follow.proofs.climb.climb.Statement.{statement}
 use Rattle.follow.proofs.climb.climb.Tie as tie
 

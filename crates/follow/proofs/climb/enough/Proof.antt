@@ -1,10 +1,10 @@
-use lib.Dec.{leb}
+-- `follow::climb::enough` meets its contract. Assumes nothing.
+use mathlib.Core.Path.{ap, sym, _∙_}
 use Prim.Native.Nat.{ℕ}
-use mathlib.Core.Path.{ap}
-use Rattle.follow.proofs.Tests.{either-first, either-second}
-use mathlib.Core.Path.{sym, _∙_}
-use borrow.Author.Tests.{eq-eqb, ne-eqb}
 use borrow.Author.Needs.{needs}
+use borrow.Author.Tests.{eq-eqb, ne-eqb}
+use lib.Dec.{leb}
+use Rattle.follow.proofs.Tests.{either-first, either-second}
 use Rattle.follow.proofs.climb.enough.Statement.{statement}
 use Rattle.follow.proofs.climb.enough.Tie as tie
 

@@ -1,12 +1,13 @@
-use lib.ListN.{getD}
+-- `follow::climb::look_at` meets its contract. Assumes nothing.
+use mathlib.Core.Path.{ap, sym, _∙_}
 use Prim.Native.Nat.{ℕ, _-_}
 use native.Mathlib.Omega.{arith}
+use borrow.Author.Needs.{needs}
 use borrow.Author.Tests.{eq-eqb, ne-eqb}
+use lib.ListN.{getD}
 use Rattle.procedure.specs.Entry.{held}
 use Rattle.follow.specs.Climb.{lookRepeat}
-use mathlib.Core.Path.{ap, sym, _∙_}
 use Rattle.follow.proofs.Tests.{left, taken-as}
-use borrow.Author.Needs.{needs}
 use Rattle.follow.proofs.climb.look_at.Statement.{statement}
 use Rattle.follow.proofs.climb.look_at.Tie as tie
 

@@ -1,7 +1,8 @@
-use Rattle.follow.proofs.Tests.{taken, left}
+-- `follow::climb::look_into` meets its contract. Assumes nothing.
 use mathlib.Core.Path.{refl, sym, _∙_}
-use borrow.Author.Tests.{eq-eqb, ne-eqb}
 use borrow.Author.Needs.{needs}
+use borrow.Author.Tests.{eq-eqb, ne-eqb}
+use Rattle.follow.proofs.Tests.{taken, left}
 use Rattle.follow.proofs.climb.look_into.Statement.{statement}
 use Rattle.follow.proofs.climb.look_into.Tie as tie
 use Rattle.follow.proofs.climb.look_into.Reads as reads

@@ -1,6 +1,7 @@
-use Rattle.follow.proofs.Tests.{taken, left}
+-- `follow::climb::look_repeat` meets its contract. Assumes nothing.
 use mathlib.Core.Path.{refl, sym, _∙_}
 use borrow.Author.Needs.{needs}
+use Rattle.follow.proofs.Tests.{taken, left}
 use Rattle.follow.proofs.climb.look_repeat.Statement.{statement}
 use Rattle.follow.proofs.climb.look_repeat.Tie as tie
 use Rattle.follow.proofs.climb.look_repeat.Reads as reads

@@ -1,9 +1,9 @@
-use lib.Dec.{ltb}
-use mathlib.Core.Path.{ap}
-use Rattle.follow.proofs.Tests.{either-first, either-second}
-use mathlib.Core.Path.{sym, _∙_}
-use borrow.Author.Tests.{eq-eqb, ne-eqb}
+-- `follow::climb::more` meets its contract. Assumes nothing.
+use mathlib.Core.Path.{ap, sym, _∙_}
 use borrow.Author.Needs.{needs}
+use borrow.Author.Tests.{eq-eqb, ne-eqb}
+use lib.Dec.{ltb}
+use Rattle.follow.proofs.Tests.{either-first, either-second}
 use Rattle.follow.proofs.climb.more.Statement.{statement}
 use Rattle.follow.proofs.climb.more.Tie as tie
 

@@ -1,5 +1,6 @@
-use Rattle.follow.proofs.Tests.{starts-before, starts-behind, starts-within}
+-- `follow::climb::starts` meets its contract. Assumes nothing.
 use borrow.Author.Needs.{needs}
+use Rattle.follow.proofs.Tests.{starts-before, starts-behind, starts-within}
 use Rattle.follow.proofs.climb.starts.Statement.{statement}
 use Rattle.follow.proofs.climb.starts.Tie as tie
 use Rattle.follow.proofs.climb.starts.Reads as reads

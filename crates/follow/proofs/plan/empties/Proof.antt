@@ -1,7 +1,8 @@
-use Rattle.procedure.specs.Entry.{unpacked}
+-- `follow::plan::empties` meets its contract. Assumes nothing.
 use mathlib.Core.Path.{sym, _∙_}
-use Rattle.follow.proofs.Links.{empty-repeat, empty-sequence, empty-choice}
 use borrow.Author.Needs.{needs}
+use Rattle.procedure.specs.Entry.{unpacked}
+use Rattle.follow.proofs.Links.{empty-repeat, empty-sequence, empty-choice}
 use Rattle.follow.proofs.plan.empties.Statement.{statement}
 use Rattle.follow.proofs.plan.empties.Tie as tie
 

@@ -1,7 +1,8 @@
-use borrow.Author.Tests.{eq-eqb, ne-eqb}
+-- `follow::plan::empties_repeat` meets its contract. Assumes nothing.
 use mathlib.Core.Path.{refl, sym, _∙_}
-use Rattle.follow.proofs.Tests.{taken-as, left}
 use borrow.Author.Needs.{needs}
+use borrow.Author.Tests.{eq-eqb, ne-eqb}
+use Rattle.follow.proofs.Tests.{taken-as, left}
 use Rattle.follow.proofs.plan.empties_repeat.Statement.{statement}
 use Rattle.follow.proofs.plan.empties_repeat.Tie as tie
 

@@ -1,9 +1,10 @@
-use Rattle.procedure.specs.Entry.{unpacked}
+-- `follow::plan::entry_at` meets its contract. Assumes nothing.
 use mathlib.Core.Path.{ap, subst, _∙_}
-use native.Mathlib.Omega.{arith}
 use Prim.Native.Nat.{ℕ, _-_, _≤_, _<_}
-use Rattle.follow.proofs.Links.{start-leaf, start-over, empty-leaf, empty-over}
+use native.Mathlib.Omega.{arith}
 use borrow.Author.Needs.{needs}
+use Rattle.procedure.specs.Entry.{unpacked}
+use Rattle.follow.proofs.Links.{start-leaf, start-over, empty-leaf, empty-over}
 use Rattle.follow.proofs.plan.entry_at.Statement.{statement}
 use Rattle.follow.proofs.plan.entry_at.Tie as tie
 

@@ -1,6 +1,7 @@
+-- `follow::plan::entry_over` meets its contract. Assumes nothing.
 use mathlib.Core.Path.{ap, _∙_}
-use Rattle.follow.specs.Plan.{startAt}
 use borrow.Author.Needs.{needs}
+use Rattle.follow.specs.Plan.{startAt}
 use Rattle.follow.proofs.plan.entry_over.Statement.{statement}
 use Rattle.follow.proofs.plan.entry_over.Tie as tie
 

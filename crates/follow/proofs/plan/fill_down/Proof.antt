@@ -1,7 +1,8 @@
+-- `follow::plan::fill_down` meets its contract. Assumes nothing.
 use mathlib.Core.Path.{_≡_, refl}
+use Prim.Native.Nat.{_≤_, _-_}
 use native.Mathlib.Omega.{arith}
 use borrow.Author.Needs.{needs}
-use Prim.Native.Nat.{_≤_, _-_}
 use Rattle.follow.specs.Filling.{down}
 use Rattle.follow.proofs.Links.{down-one, down-done}
 use Rattle.follow.proofs.plan.fill_down.Statement.{statement}

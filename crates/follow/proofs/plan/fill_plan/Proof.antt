@@ -1,9 +1,10 @@
+-- `follow::plan::fill_plan` meets its contract. Assumes nothing.
 use native.Mathlib.Omega.{arith}
+use borrow.Author.Needs.{needs}
 use Rattle.meaning.proofs.Files.{root-size}
 use Rattle.procedure.specs.Entry.{held}
 use Rattle.follow.proofs.Upward.{upon}
 use Rattle.follow.proofs.Whole.{plans-as}
-use borrow.Author.Needs.{needs}
 use Rattle.follow.proofs.plan.fill_plan.Statement.{statement}
 use Rattle.follow.proofs.plan.fill_plan.Tie as tie
 

@@ -1,13 +1,14 @@
+-- `follow::plan::fill_up` meets its contract. Assumes nothing.
 use mathlib.Core.Path.{_≡_, refl, sym, ap, subst, _∙_}
+use Prim.Native.Nat.{ℕ, suc, _+_, _≤_, _-_}
 use native.Mathlib.Omega.{arith}
 use borrow.Author.Needs.{needs}
-use Prim.Native.Nat.{ℕ, suc, _+_, _≤_, _-_}
 use Rattle.meaning.specs.Node.{isRepeat, repeatsBelow}
 use Rattle.procedure.specs.Entry.{held}
 use Rattle.follow.specs.Filling.{UpTo}
 use Rattle.follow.proofs.Counting.{below-rises}
-use Rattle.follow.proofs.Upward.{up-more}
 use Rattle.follow.proofs.Links.{up-none}
+use Rattle.follow.proofs.Upward.{up-more}
 use Rattle.follow.proofs.plan.fill_up.Statement.{statement}
 use Rattle.follow.proofs.plan.fill_up.Tie as tie
 

@@ -1,7 +1,8 @@
-use Rattle.procedure.specs.Entry.{unpacked}
+-- `follow::plan::is_repeat` meets its contract. Assumes nothing.
 use mathlib.Core.Path.{sym, _∙_}
-use Rattle.follow.proofs.Links.{repeat-bit, other-bit}
 use borrow.Author.Needs.{needs}
+use Rattle.procedure.specs.Entry.{unpacked}
+use Rattle.follow.proofs.Links.{repeat-bit, other-bit}
 use Rattle.follow.proofs.plan.is_repeat.Statement.{statement}
 use Rattle.follow.proofs.plan.is_repeat.Tie as tie
 

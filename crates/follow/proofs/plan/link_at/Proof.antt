@@ -1,9 +1,10 @@
-use Rattle.procedure.specs.Entry.{unpacked}
+-- `follow::plan::link_at` meets its contract. Assumes nothing.
 use mathlib.Core.Path.{subst}
-use native.Mathlib.Omega.{arith}
 use Prim.Native.Nat.{ℕ, _≤_, _<_}
-use Rattle.follow.proofs.Links.{link-leaf}
+use native.Mathlib.Omega.{arith}
 use borrow.Author.Needs.{needs}
+use Rattle.procedure.specs.Entry.{unpacked}
+use Rattle.follow.proofs.Links.{link-leaf}
 use Rattle.follow.proofs.plan.link_at.Statement.{statement}
 use Rattle.follow.proofs.plan.link_at.Tie as tie
 

@@ -1,7 +1,8 @@
-use Rattle.procedure.specs.Entry.{unpacked}
+-- `follow::plan::link_over` meets its contract. Assumes nothing.
 use mathlib.Core.Path.{sym, _∙_}
-use Rattle.follow.proofs.Links.{link-repeat, link-sequence, link-choice, link-other}
 use borrow.Author.Needs.{needs}
+use Rattle.procedure.specs.Entry.{unpacked}
+use Rattle.follow.proofs.Links.{link-repeat, link-sequence, link-choice, link-other}
 use Rattle.follow.proofs.plan.link_over.Statement.{statement}
 use Rattle.follow.proofs.plan.link_over.Tie as tie
 

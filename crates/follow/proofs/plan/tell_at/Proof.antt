@@ -1,6 +1,7 @@
+-- `follow::plan::tell_at` meets its contract. Assumes nothing.
 use mathlib.Core.Path.{ap}
-use lib.ListN.{set}
 use borrow.Author.Needs.{needs}
+use lib.ListN.{set}
 use Rattle.follow.proofs.plan.tell_at.Statement.{statement}
 use Rattle.follow.proofs.plan.tell_at.Tie as tie
 

@@ -1,8 +1,9 @@
-use mathlib.Core.Path.{ap, _∙_}
+-- `follow::plan::tell_pair` meets its contract. Assumes nothing.
 use mathlib.Core.List.{List}
+use mathlib.Core.Path.{ap, _∙_}
 use Prim.Native.Nat.{ℕ}
-use Rattle.follow.specs.Filling.{tell}
 use borrow.Author.Needs.{needs}
+use Rattle.follow.specs.Filling.{tell}
 use Rattle.follow.proofs.plan.tell_pair.Statement.{statement}
 use Rattle.follow.proofs.plan.tell_pair.Tie as tie
 

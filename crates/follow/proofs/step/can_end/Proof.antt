@@ -1,9 +1,10 @@
-use Rattle.follow.proofs.Whole.{rises}
+-- `follow::step::can_end` meets its contract. Assumes nothing.
 use mathlib.Core.Path.{refl}
 use native.Mathlib.Nat.{le-refl}
+use borrow.Author.Needs.{needs}
 use Rattle.follow.proofs.Beginnings.{past}
 use Rattle.follow.proofs.Stepping.{end-yes, end-no, at-not-ends, stuck-not-ends}
-use borrow.Author.Needs.{needs}
+use Rattle.follow.proofs.Whole.{rises}
 use Rattle.follow.proofs.step.can_end.Statement.{statement}
 use Rattle.follow.proofs.step.can_end.Tie as tie
 

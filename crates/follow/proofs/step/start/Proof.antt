@@ -1,9 +1,10 @@
-use native.Mathlib.Omega.{arith}
-use Rattle.follow.proofs.Whole.{rises}
-use mathlib.Core.Path.{refl, sym, _∙_}
+-- `follow::step::start` meets its contract. Assumes nothing.
 use mathlib.Core.Bool.{true, false, true≢false, false≢true}
-use Rattle.follow.proofs.Stepping.{start-by-test}
+use mathlib.Core.Path.{refl, sym, _∙_}
+use native.Mathlib.Omega.{arith}
 use borrow.Author.Needs.{needs}
+use Rattle.follow.proofs.Stepping.{start-by-test}
+use Rattle.follow.proofs.Whole.{rises}
 use Rattle.follow.proofs.step.start.Statement.{statement}
 use Rattle.follow.proofs.step.start.Tie as tie
 

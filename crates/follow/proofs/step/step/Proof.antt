@@ -1,8 +1,9 @@
-use native.Mathlib.Omega.{arith}
-use Rattle.follow.proofs.Whole.{rises}
+-- `follow::step::step` meets its contract. Assumes nothing.
 use mathlib.Core.Logic.{inl, inr}
-use Rattle.follow.proofs.Stepping.{climbs-at, step-turns, step-stays}
+use native.Mathlib.Omega.{arith}
 use borrow.Author.Needs.{needs}
+use Rattle.follow.proofs.Stepping.{climbs-at, step-turns, step-stays}
+use Rattle.follow.proofs.Whole.{rises}
 use Rattle.follow.proofs.step.step.Statement.{statement}
 use Rattle.follow.proofs.step.step.Tie as tie
 

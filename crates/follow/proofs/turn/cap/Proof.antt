@@ -1,3 +1,4 @@
+-- `follow::turn::cap` meets its contract. Assumes nothing.
 use Rattle.follow.proofs.Tests.{cap-empty, cap-zero, cap-lower}
 use Rattle.follow.proofs.turn.cap.Statement.{statement}
 use Rattle.follow.proofs.turn.cap.Tie as tie

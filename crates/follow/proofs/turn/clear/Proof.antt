@@ -1,10 +1,8 @@
-use Rattle.follow.proofs.Tests.{cleared-none, cleared-more, cleared-all}
+-- `follow::turn::clear` meets its contract. Assumes nothing.
 use Prim.Native.Nat.{_≤_, _-_, max}
-use mathlib.Core.Path.{_≡_}
-use lib.ListN.{length}
 use borrow.Author.Needs.{needs}
-use native.Mathlib.Omega.{arith}
 use Rattle.follow.specs.Counts.{Cleared}
+use Rattle.follow.proofs.Tests.{cleared-none, cleared-more, cleared-all}
 use Rattle.follow.proofs.turn.clear.Statement.{statement}
 use Rattle.follow.proofs.turn.clear.Tie as tie
 

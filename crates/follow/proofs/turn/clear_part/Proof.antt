@@ -1,7 +1,8 @@
+-- `follow::turn::clear_part` meets its contract. Assumes nothing.
 use mathlib.Core.Path.{ap, _∙_}
-use Rattle.follow.proofs.Tests.{cleared-as}
-use Rattle.follow.specs.Plan.{rankAt}
 use borrow.Author.Needs.{needs}
+use Rattle.follow.specs.Plan.{rankAt}
+use Rattle.follow.proofs.Tests.{cleared-as}
 use Rattle.follow.proofs.turn.clear_part.Statement.{statement}
 use Rattle.follow.proofs.turn.clear_part.Tie as tie
 

@@ -1,11 +1,12 @@
-use Rattle.follow.proofs.Tests.{set-one}
+-- `follow::turn::mark` meets its contract. Assumes nothing.
+use mathlib.Core.List.{List}
 use mathlib.Core.Path.{subst}
+use Prim.Native.Nat.{ℕ, _-_}
 use native.Mathlib.Omega.{arith}
 use borrow.Author.Needs.{needs}
-use mathlib.Core.List.{List}
-use Prim.Native.Nat.{ℕ, _-_}
-use Rattle.follow.specs.Plan.{aboveAt}
 use Rattle.follow.specs.Counts.{Sets, done}
+use Rattle.follow.specs.Plan.{aboveAt}
+use Rattle.follow.proofs.Tests.{set-one}
 use Rattle.follow.proofs.turn.mark.Statement.{statement}
 use Rattle.follow.proofs.turn.mark.Tie as tie
 

@@ -1,7 +1,8 @@
-use Rattle.follow.proofs.Tests.{marked-there, marked-not}
+-- `follow::turn::mark_at` meets its contract. Assumes nothing.
 use mathlib.Core.Path.{sym, _∙_}
 use native.Mathlib.Omega.{arith}
 use borrow.Author.Needs.{needs}
+use Rattle.follow.proofs.Tests.{marked-there, marked-not}
 use Rattle.follow.proofs.turn.mark_at.Statement.{statement}
 use Rattle.follow.proofs.turn.mark_at.Tie as tie
 

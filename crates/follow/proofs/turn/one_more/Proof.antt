@@ -1,7 +1,8 @@
-use Rattle.follow.proofs.Tests.{one-more-endless, one-more-below, one-more-full}
+-- `follow::turn::one_more` meets its contract. Assumes nothing.
 use mathlib.Core.Path.{sym, subst, _∙_}
 use Prim.Native.Nat.{ℕ, _≤_, _<_}
 use borrow.Author.Needs.{needs}
+use Rattle.follow.proofs.Tests.{one-more-endless, one-more-below, one-more-full}
 use Rattle.follow.proofs.turn.one_more.Statement.{statement}
 use Rattle.follow.proofs.turn.one_more.Tie as tie
 

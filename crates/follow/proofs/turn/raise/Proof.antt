@@ -1,7 +1,8 @@
-use Rattle.follow.proofs.Tests.{raised-there, raised-not}
+-- `follow::turn::raise` meets its contract. Assumes nothing.
 use mathlib.Core.Path.{sym, _∙_}
 use native.Mathlib.Omega.{arith}
 use borrow.Author.Needs.{needs}
+use Rattle.follow.proofs.Tests.{raised-there, raised-not}
 use Rattle.follow.proofs.turn.raise.Statement.{statement}
 use Rattle.follow.proofs.turn.raise.Tie as tie
 

@@ -1,5 +1,6 @@
-use Rattle.follow.proofs.Tests.{turned-by}
+-- `follow::turn::turn` meets its contract. Assumes nothing.
 use native.Mathlib.Omega.{arith}
+use Rattle.follow.proofs.Tests.{turned-by}
 use Rattle.follow.proofs.turn.turn.Statement.{statement}
 use Rattle.follow.proofs.turn.turn.Tie as tie
 
