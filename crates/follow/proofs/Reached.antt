@@ -53,8 +53,8 @@ module _ (counts : List ℕ) where
       forth f g j h =
           ⊎-elim (λ l. f j l ∙ sym (List·getD-append x y 0 j l))
           (λ l.
-              let there : k + m + (j - length x) ≡ k + j = omega arith in
-              ap (λ (i : ℕ). getD counts i 0) (sym there) ∙ g (j - length x) (omega (arith, length-append x y)) ∙ sym (far j l))
+          let there : k + m + (j - length x) ≡ k + j = omega arith in
+          ap (λ (i : ℕ). getD counts i 0) (sym there) ∙ g (j - length x) (omega (arith, length-append x y)) ∙ sym (far j l))
           (below-or-from j (length x))
 
       front : Agrees counts k (x ++ y) → Agrees counts k x
@@ -299,25 +299,25 @@ module _
     {counts : List ℕ}
     (d : Decoded bytes node counts)
   where
-  -- where a run can stand, some run does
-  pub stand-reached : CanStand e node counts → (u : List ℕ) × ReachesBytes e u bytes
-  stand-reached t =
-      let run = spot-reached e bounded (t .0) (t .1) in
-      (run .0, (spotState e (t .0), run .1, d .written ∙ spot-bytes e (t .0) node counts few (d .long) (t .2)))
+    -- where a run can stand, some run does
+    pub stand-reached : CanStand e node counts → (u : List ℕ) × ReachesBytes e u bytes
+    stand-reached t =
+        let run = spot-reached e bounded (t .0) (t .1) in
+        (run .0, (spotState e (t .0), run .1, d .written ∙ spot-bytes e (t .0) node counts few (d .long) (t .2)))
 
-  -- a run that reaches the bytes stands at a spot that has the node and the counters
-  reached-stand : (u : List ℕ) → ReachesBytes e u bytes
-      → (k : Spot e) × Safe e k × AtSpot e k node counts × Reaches e u (spotState e k)
-  reached-stand u r =
-      let t = reached-spot e bounded u (r .0) (r .1) in
-      let at = bytes-spot e (t .0) bytes node counts small short few (t .1) d (r .2 ∙ ap stateBytes (t .2)) in
-      (t .0, t .1, at, subst (Reaches e u) (t .2) (r .1))
+    -- a run that reaches the bytes stands at a spot that has the node and the counters
+    reached-stand : (u : List ℕ) → ReachesBytes e u bytes
+        → (k : Spot e) × Safe e k × AtSpot e k node counts × Reaches e u (spotState e k)
+    reached-stand u r =
+        let t = reached-spot e bounded u (r .0) (r .1) in
+        let at = bytes-spot e (t .0) bytes node counts small short few (t .1) d (r .2 ∙ ap stateBytes (t .2)) in
+        (t .0, t .1, at, subst (Reaches e u) (t .2) (r .1))
 
-  pub not-stand-unreached : ¬ CanStand e node counts → NoneReaches e bytes
-  not-stand-unreached h u r = let t = reached-stand u r in h (t .0, t .1, t .2)
+    pub not-stand-unreached : ¬ CanStand e node counts → NoneReaches e bytes
+    not-stand-unreached h u r = let t = reached-stand u r in h (t .0, t .1, t .2)
 
-  -- every run that reaches the bytes reaches the state at the spot
-  pub reaches-there : (k : Spot e) → AtSpot e k node counts → (u : List ℕ) → ReachesBytes e u bytes → Reaches e u (spotState e k)
-  reaches-there k at u r =
-      let t = reached-stand u r in
-      subst (Reaches e u) (same-spot-state e (t .0) k node counts (d .long) (t .2) at) (t .3)
+    -- every run that reaches the bytes reaches the state at the spot
+    pub reaches-there : (k : Spot e) → AtSpot e k node counts → (u : List ℕ) → ReachesBytes e u bytes → Reaches e u (spotState e k)
+    reaches-there k at u r =
+        let t = reached-stand u r in
+        subst (Reaches e u) (same-spot-state e (t .0) k node counts (d .long) (t .2) at) (t .3)
