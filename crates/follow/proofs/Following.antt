@@ -52,12 +52,12 @@ entered-ready {f} {nodes} {n} o =
       sized = listed .1;
       few = counted .1;
       some =
-        omega (
-          arith,
-          same-below (held nodes) (nodeAt f) n (in-order .tied),
-          ap (repeatsBelow (nodeAt f)) (in-order .counted),
-          in-order .holds .few,
-        );
+          omega (
+            arith,
+            same-below (held nodes) (nodeAt f) n (in-order .tied),
+            ap (repeatsBelow (nodeAt f)) (in-order .counted),
+            in-order .holds .few,
+          );
       bounded = holds-bounded (in-order .holds);
       small = holds-small (in-order .holds);
     }

@@ -76,8 +76,7 @@ encode-requires c κs =
     let e = ready .0 in
     let came = told r e (ready .1) in
     let same = node .node .given .1 in
-    let run-on = ran .run .ensures .1 .1 e in
-    (
+    let run-on = ran .run .ensures .1 .1 e in (
       read-long e (bytes r) (counts r) _ _ came same,
       (
         ran-long e (bytes r) (counts r) (events r) _ _ _ _ _ came same (λ k s. run-on k (planned r e (ready .1)) s),
