@@ -8,13 +8,14 @@ mod Upward
 mod Whole
 mod Links
 mod Stepping
-mod Nearby
-mod EventNodes
-mod Lighting
-pub mod Continuing
-mod Running
 mod StateBytes
 mod RightCounts
 mod Standing
 mod Reached
 mod SmallCounts
+mod Running
+mod Following
+mod Nearby
+mod EventNodes
+mod Lighting
+pub mod Continuing

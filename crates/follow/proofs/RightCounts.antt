@@ -5,6 +5,7 @@ use mathlib.Core.Bool.{Bool, true, false, cond, _||_, false≢true}
 use mathlib.Core.List.{List}
 use Prim.Native.Nat.{ℕ, zero, suc, _+_, _≤_, _<_, max}
 use native.Mathlib.Omega.{arith}
+use borrow.Author.Count.{below-more}
 use borrow.Author.Tests.{le-leb, lt-leb, lt-ltb, le-ltb, eq-eqb, ne-eqb, eqb-true, leb-true}
 use lib.Dec.{eqb, leb, ltb, eqb·suc-zero}
 use lib.ListN.{length, getD, List·getD-eq-default}
@@ -19,7 +20,7 @@ use Rattle.procedure.specs.Entry.{held, kindOf}
 use Rattle.follow.specs.Table.{startIn, emptyIn}
 use Rattle.follow.specs.Plan.{rankAt, repeats, bit, Own}
 use Rattle.follow.specs.Counts.{Clear, Held}
-use Rattle.follow.specs.Valid.{mostOf, fitsIn, rightAt, ClearFrom}
+use Rattle.follow.specs.Valid.{mostOf, fitsIn, rightAt, AllRight, ClearFrom}
 use Rattle.follow.proofs.Counting.{repeats-past}
 use Rattle.follow.proofs.StateBytes.{below-or-from}
 
@@ -102,6 +103,13 @@ fits-inside s m y p c h k = let f = fits-within s m y p c h k in (λ e. counted 
 pub right-test : (nodes plan counts : List ℕ) (p y rank : ℕ) (r : Bool) → kindOf (held nodes y) ≡ 4 → rank ≡ rankAt plan y
     → r ≡ fitsIn (startIn (getD plan y 0)) (mostOf (held nodes y) (getD plan y 0)) y p (getD counts rank 0) → r ≡ rightAt nodes plan counts p y
 right-test nodes plan counts p y rank r kind e f = rw (eq-eqb (kindOf (held nodes y)) 4 kind, ← e) f
+
+pub all-more : (nodes plan counts : List ℕ) (p y : ℕ) (r : Bool) → AllRight nodes plan counts p y → r ≡ rightAt nodes plan counts p y → r ≡ true
+    → AllRight nodes plan counts p (y + 1)
+all-more nodes plan counts p y r f e h = below-more _ y f (sym e ∙ h)
+
+pub not-all : (nodes plan counts : List ℕ) (p n y : ℕ) (r : Bool) → y < n → r ≡ rightAt nodes plan counts p y → r ≡ false → ¬ AllRight nodes plan counts p n
+not-all nodes plan counts p n y r l e h f = false≢true (sym h ∙ e ∙ f y l)
 
 -- ---- counters that are 0
 

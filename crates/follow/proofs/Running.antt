@@ -27,7 +27,8 @@ use Rattle.follow.specs.Plan.{Plans, emptyAt, bit}
 use Rattle.follow.specs.Counts.{Marked, Unmarked}
 use Rattle.follow.specs.Step.{Stepped, steps, Started, starts, Ended, ended, open-yet}
 use Rattle.follow.specs.Step as step
-use Rattle.follow.specs.Run.{Stood, Found, Tried, leads, Nexted, goes, RanTo}
+use Rattle.follow.specs.Valid.{AtSpot}
+use Rattle.follow.specs.Run.{Found, Tried, leads, Nexted, goes, RanTo}
 use Rattle.follow.specs.Run as run
 
 -- ---- the entry of an event node
@@ -86,11 +87,11 @@ tried-stepped : {e : Expr} {p : Place e} {q : ℕ} {b : Bool} {c d : List ℕ} �
 tried-stepped (steps t w n m) = leads t w (ap (λ (i : ℕ). i + 1) (sym n), m)
 tried-stepped (step.Stepped.stays h) = run.Tried.stays h
 
-pub from-start : (e : Expr) (k : Spot e) (at q : ℕ) (b : Bool) (c d : List ℕ) → at ≡ 0 → Stood e k at c → (Unmarked c → Started e q b c d) → Tried e k q b c d
+pub from-start : (e : Expr) (k : Spot e) (at q : ℕ) (b : Bool) (c d : List ℕ) → at ≡ 0 → AtSpot e k at c → (Unmarked c → Started e q b c d) → Tried e k q b c d
 from-start e start at q b c d z s f = tried-started (f (s .1))
 from-start e (behind p) at q b c d z s f = absurd (omega (arith, s .0))
 
-pub from-place : (e : Expr) (k : Spot e) (at q : ℕ) (b : Bool) (c d : List ℕ) → ¬ (at ≡ 0) → Stood e k at c
+pub from-place : (e : Expr) (k : Spot e) (at q : ℕ) (b : Bool) (c d : List ℕ) → ¬ (at ≡ 0) → AtSpot e k at c
     → ((p : Place e) → nodeOf 0 e p ≡ at - 1 → Marked c e p → Stepped e p q b c d)
     → Tried e k q b c d
 from-place e start at q b c d z s f = absurd (z (s .0))
@@ -156,9 +157,9 @@ wanted-kind nodes code wanted q small same here = ap kindOf (entry-event (getD n
 pub record Along (e : Expr) (k : Spot e) (events : List ℕ) (taken at : ℕ) (counts : List ℕ) : Type 0 where
   pub spot : Spot e
   pub gone : Gone e k events taken spot
-  pub stood : Stood e spot at counts
+  pub stood : AtSpot e spot at counts
 
-pub along-none : (e : Expr) (k : Spot e) (events : List ℕ) (at : ℕ) (counts : List ℕ) → Stood e k at counts → Along e k events 0 at counts
+pub along-none : (e : Expr) (k : Spot e) (events : List ℕ) (at : ℕ) (counts : List ℕ) → AtSpot e k at counts → Along e k events 0 at counts
 along-none e k events at counts s = record { spot = k; gone = gone-none e k events; stood = s }
 
 pub along-more : (e : Expr) (k : Spot e) (events : List ℕ) (taken at code r : ℕ) (c d : List ℕ) → (a : Along e k events taken at c) → taken < length events
@@ -188,7 +189,7 @@ decides-eqb P x y f = go (eqb x y) refl
     go true h = f .0 (so-eqb x y .0 h)
     go false h = λ p. true≢false (sym (so-eqb x y .1 (f .1 p)) ∙ h)
 
-pub stop-start : (nodes plan : List ℕ) (n : ℕ) (e : Expr) (k : Spot e) (at m : ℕ) (c : List ℕ) → Plans nodes plan n e → at ≡ 0 → Stood e k at c
+pub stop-start : (nodes plan : List ℕ) (n : ℕ) (e : Expr) (k : Spot e) (at m : ℕ) (c : List ℕ) → Plans nodes plan n e → at ≡ 0 → AtSpot e k at c
     → m ≡ emptyAt plan (n - 1)
     → (m ≡ 1 → CanStop e k) × (CanStop e k → m ≡ 1)
 stop-start nodes plan n e start at m c pl z s h =
@@ -207,7 +208,7 @@ decides-ended : (n : ℕ) (e : Expr) (p : Place e) (b : Bool) → size e ≡ n �
 decides-ended n e p b l (ended h) = way-ends 0 e p n (omega arith) .0 h
 decides-ended n e p b l (open-yet h) = λ g. h (way-ends 0 e p n (omega arith) .1 g)
 
-pub stop-place : (nodes plan : List ℕ) (n : ℕ) (e : Expr) (k : Spot e) (at : ℕ) (b : Bool) (c : List ℕ) → Plans nodes plan n e → ¬ (at ≡ 0) → Stood e k at c
+pub stop-place : (nodes plan : List ℕ) (n : ℕ) (e : Expr) (k : Spot e) (at : ℕ) (b : Bool) (c : List ℕ) → Plans nodes plan n e → ¬ (at ≡ 0) → AtSpot e k at c
     → ((p : Place e) → nodeOf 0 e p ≡ at - 1 → Marked c e p → Ended n e p b)
     → Decides (CanStop e k) b
 stop-place nodes plan n e start at b c pl z s f = absurd (z (s .0))

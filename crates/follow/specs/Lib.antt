@@ -5,7 +5,8 @@ pub mod Counts
 pub mod Climb
 pub mod Filling
 pub mod Step
-pub mod Near
-pub mod Run
 pub mod StateBytes
 pub mod Valid
+pub mod Run
+pub mod Batch
+pub mod Near

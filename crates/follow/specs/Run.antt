@@ -5,16 +5,11 @@ use mathlib.Core.List.{List}
 use Prim.Native.Nat.{ℕ, _+_, _≤_, _<_}
 use lib.ListN.{getD}
 use Rattle.meaning.specs.Expr.{Expr, event, Part}
-use Rattle.meaning.proofs.Place.{Place, nodeOf}
-use Rattle.meaning.proofs.Spots.{Spot, start, behind}
+use Rattle.meaning.proofs.Place.{Place}
+use Rattle.meaning.proofs.Spots.{Spot, behind}
 use Rattle.meaning.proofs.Runs.{LeadsTo, NoWay}
 use Rattle.meaning.proofs.Follows.{Going}
-use Rattle.follow.specs.Counts.{Marked, Unmarked}
-
--- the node, 0 at the start or else 1 + the event node reached, and the 32 counters are those of the spot
-abbrev pub Stood : (e : Expr) → Spot e → ℕ → List ℕ → Type 0
-Stood e start node counts = (node ≡ 0) × Unmarked counts
-Stood e (behind p) node counts = (node ≡ nodeOf 0 e p + 1) × Marked counts e p
+use Rattle.follow.specs.Valid.{AtSpot}
 
 -- r is the lowest number from `from` on whose entry is the one wanted, or n where there is none below n
 pub record Found (nodes : List ℕ) (n from wanted r : ℕ) : Type 0 where
@@ -25,16 +20,16 @@ pub record Found (nodes : List ℕ) (n from wanted r : ℕ) : Type 0 where
 
 -- from the spot to event node q, with the counters c before and d after: yes exactly if the way leads to a place
 pub data Tried (e : Expr) (k : Spot e) (q : ℕ) : Bool → List ℕ → List ℕ → Type 0 where
-  leads : {c d : List ℕ} (t : Place e) → LeadsTo e k q t → Stood e (behind t) (q + 1) d → Tried e k q true c d
+  leads : {c d : List ℕ} (t : Place e) → LeadsTo e k q t → AtSpot e (behind t) (q + 1) d → Tried e k q true c d
   stays : {c : List ℕ} → ((t : Place e) → ¬ LeadsTo e k q t) → Tried e k q false c c
 
 -- from the spot by an event with the code: to the node after it, or 0 where the code does not continue
 pub data Nexted (e : Expr) (k : Spot e) (code : ℕ) : ℕ → List ℕ → List ℕ → Type 0 where
-  goes : {c d : List ℕ} (q : ℕ) (t : Place e) → Part 0 e q (event code) → LeadsTo e k q t → Stood e (behind t) (q + 1) d → Nexted e k code (q + 1) c d
+  goes : {c d : List ℕ} (q : ℕ) (t : Place e) → Part 0 e q (event code) → LeadsTo e k q t → AtSpot e (behind t) (q + 1) d → Nexted e k code (q + 1) c d
   stays : {c : List ℕ} → NoWay e k code → Nexted e k code 0 c c
 
 -- from the spot with the events: so many are taken, and the run then stands at the node with the counters
 pub record RanTo (e : Expr) (k : Spot e) (events : List ℕ) (taken node : ℕ) (counts : List ℕ) : Type 0 where
   pub spot : Spot e
   pub going : Going e k events taken spot
-  pub stood : Stood e spot node counts
+  pub stood : AtSpot e spot node counts

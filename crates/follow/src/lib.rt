@@ -1,11 +1,27 @@
-// Runs against a procedure: the step from where a run stands to an event node.
+// Runs against a procedure: from a state, with the events of a batch, to the state after those taken.
+ghost use Rattle.meaning.specs.Promises.{Follows};
+use judge::Admission;
+use meaning::FollowAnswer;
+
 mod table; // table.rt: the numbers of a plan's entry
 pub mod plan; // plan.rt: the plan of a procedure
 mod climb; // climb.rt: the way up from an event node
 mod turn; // turn.rt: the counters after a turn
 pub mod step; // step.rt: the step to an event node
-mod near; // near.rt: which event nodes can directly follow one another in the loosened procedure
-mod prompt; // prompt.rt: the codes to light
-pub mod run; // run.rt: a run of events
 pub mod state; // state.rt: where a run stands, and its bytes
 pub mod valid; // valid.rt: whether a run can stand there
+pub mod run; // run.rt: a run of events
+mod batch; // batch.rt: the events of one call
+mod near; // near.rt: which event nodes can directly follow one another in the loosened procedure
+mod prompt; // prompt.rt: the codes to light
+
+// Follow: 0 to 8, the number of events taken, and how the run stands. A refusal leaves the state as it came.
+pub fn follow(file: &[u8], state: &mut [u8], events: &[u8]) -> FollowAnswer
+    ensures { λ r. ⌜ Follows (now (file .entry)) (now (state .entry)) (now (events .entry)) r (now (state .exit)) ⌝ }
+{
+    let mut nodes = [0u64; 512];
+    match judge::admit(file, &mut nodes) {
+        Admission::Refused(r) => FollowAnswer::Refused(r),
+        Admission::Nodes(n) => batch::go_on(&nodes, n, state, events),
+    }
+}

@@ -8,7 +8,8 @@ ghost use Rattle.meaning.proofs.Follows.{VerdictAt};
 ghost use Rattle.procedure.specs.Entry.{held, kindOf};
 ghost use Rattle.procedure.specs.Tests.{Decides};
 ghost use Rattle.follow.specs.Plan.{Plans};
-ghost use Rattle.follow.specs.Run.{Stood, Found, Tried, Nexted, RanTo};
+ghost use Rattle.follow.specs.Valid.{AtSpot};
+ghost use Rattle.follow.specs.Run.{Found, Tried, Nexted, RanTo};
 use crate::step;
 use crate::table;
 use meaning::Verdict;
@@ -56,7 +57,7 @@ fn go_to(
     requires { ⌜ node ≤ n ⌝ }
     requires { ⌜ q < n ⌝ }
     requires { ⌜ ((e : Expr) × Plans (now nodes) (now plan) n e) ⌝ }
-    ensures { λ r. ⌜ ((e : Expr) (k : Spot e) → Plans (now (nodes .entry)) (now (plan .entry)) n e → kindOf (held (now (nodes .entry)) q) ≡ 1 → Stood e k node (now (counts .entry)) → Tried e k q r (now (counts .entry)) (now (counts .exit))) ⌝ }
+    ensures { λ r. ⌜ ((e : Expr) (k : Spot e) → Plans (now (nodes .entry)) (now (plan .entry)) n e → kindOf (held (now (nodes .entry)) q) ≡ 1 → AtSpot e k node (now (counts .entry)) → Tried e k q r (now (counts .entry)) (now (counts .exit))) ⌝ }
 {
     if node == 0 {
         return step::start(nodes, plan, n, counts, q);
@@ -76,7 +77,7 @@ pub fn next(
     requires { ⌜ node ≤ n ⌝ }
     requires { ⌜ ((e : Expr) × Plans (now nodes) (now plan) n e) ⌝ }
     ensures { λ r. ⌜ r ≤ n ⌝ }
-    ensures { λ r. ⌜ ((e : Expr) (k : Spot e) → Plans (now (nodes .entry)) (now (plan .entry)) n e → Stood e k node (now (counts .entry)) → Nexted e k code r (now (counts .entry)) (now (counts .exit))) ⌝ }
+    ensures { λ r. ⌜ ((e : Expr) (k : Spot e) → Plans (now (nodes .entry)) (now (plan .entry)) n e → AtSpot e k node (now (counts .entry)) → Nexted e k code r (now (counts .entry)) (now (counts .exit))) ⌝ }
 {
     let wanted = event_of(code);
     let mut q = find(nodes, n, 0, wanted);
@@ -102,7 +103,7 @@ pub fn run(
     requires { ⌜ ((e : Expr) × Plans (now nodes) (now plan) n e) ⌝ }
     ensures { λ r. ⌜ r .node ≤ n ⌝ }
     ensures { λ r. ⌜ r .taken ≤ length (now (events .entry)) ⌝ }
-    ensures { λ r. ⌜ ((e : Expr) (k : Spot e) → Plans (now (nodes .entry)) (now (plan .entry)) n e → Stood e k node (now (counts .entry)) → RanTo e k (now (events .entry)) (r .taken) (r .node) (now (counts .exit))) ⌝ }
+    ensures { λ r. ⌜ ((e : Expr) (k : Spot e) → Plans (now (nodes .entry)) (now (plan .entry)) n e → AtSpot e k node (now (counts .entry)) → RanTo e k (now (events .entry)) (r .taken) (r .node) (now (counts .exit))) ⌝ }
 {
     let mut at = node;
     let mut taken = 0;
@@ -127,7 +128,7 @@ pub fn can_stop(
 ) -> bool
     requires { ⌜ node ≤ n ⌝ }
     requires { ⌜ ((e : Expr) × Plans (now nodes) (now plan) n e) ⌝ }
-    ensures { λ r. ⌜ ((e : Expr) (k : Spot e) → Plans (now (nodes .entry)) (now (plan .entry)) n e → Stood e k node (now (counts .entry)) → Decides (CanStop e k) r) ⌝ }
+    ensures { λ r. ⌜ ((e : Expr) (k : Spot e) → Plans (now (nodes .entry)) (now (plan .entry)) n e → AtSpot e k node (now (counts .entry)) → Decides (CanStop e k) r) ⌝ }
 {
     if node == 0 {
         return table::empty_of(plan[n - 1]) == 1;
@@ -148,7 +149,7 @@ pub fn verdict(
     requires { ⌜ node ≤ n ⌝ }
     requires { ⌜ taken ≤ given ⌝ }
     requires { ⌜ ((e : Expr) × Plans (now nodes) (now plan) n e) ⌝ }
-    ensures { λ r. ⌜ ((e : Expr) (k : Spot e) → Plans (now (nodes .entry)) (now (plan .entry)) n e → Stood e k node (now (counts .entry)) → VerdictAt e k taken given r) ⌝ }
+    ensures { λ r. ⌜ ((e : Expr) (k : Spot e) → Plans (now (nodes .entry)) (now (plan .entry)) n e → AtSpot e k node (now (counts .entry)) → VerdictAt e k taken given r) ⌝ }
 {
     if taken < given {
         return Verdict::Broken;

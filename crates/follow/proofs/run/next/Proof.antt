@@ -9,7 +9,7 @@ use lib.ListN.{getD}
 use Rattle.meaning.specs.Expr.{Expr}
 use Rattle.meaning.proofs.Spots.{Spot}
 use Rattle.follow.specs.Plan.{Plans}
-use Rattle.follow.specs.Run.{Stood}
+use Rattle.follow.specs.Valid.{AtSpot}
 use Rattle.follow.proofs.Running.{Passed, passed-none, passed-more, nexted-goes, nexted-stays, wanted-kind}
 use Rattle.follow.proofs.run.next.Statement.{statement}
 use Rattle.follow.proofs.run.next.Tie as tie
@@ -18,7 +18,7 @@ abbrev Inv-loop : tie.InvT-loop
 Inv-loop nodes plan n node counts₀ code wanted q₀ counts q =
     (q ≤ n)
     × (q < n → getD nodes q 0 ≡ wanted)
-    × ((e : Expr) (k : Spot e) → Plans nodes plan n e → Stood e k node counts₀ → Passed nodes e k wanted q counts₀ counts)
+    × ((e : Expr) (k : Spot e) → Plans nodes plan n e → AtSpot e k node counts₀ → Passed nodes e k wanted q counts₀ counts)
 
 abbrev μ-loop : tie.MeasureT-loop
 μ-loop nodes plan n node counts₀ code wanted q₀ counts q = n - q
@@ -57,7 +57,7 @@ returns c =
           nexted-goes (a .nodes .now) (a .plan .now) (a .n) e k (a .code) (wanted .event-of .result) (at .loop .q) _ (a .counts .now) (at .loop .counts) _ pl
           (event .1) (event .0) below here (c .if1 .taken)
           (c .before .go-to .ensures e k pl (wanted-kind (a .nodes .now) (a .code) (wanted .event-of .result) (at .loop .q) (event .1) (event .0) here)
-          (subst (λ (x : List ℕ). Stood e k (a .node) x) (at .loop .inv .2 e k pl s .same) s)),
+          (subst (λ (x : List ℕ). AtSpot e k (a .node) x) (at .loop .inv .2 e k pl s .same) s)),
     )
 
 add-find : tie.Need-add-find Inv-loop μ-loop
@@ -87,7 +87,7 @@ loop-again c =
           let passed = at .loop .inv .2 e k pl s in
           passed-more (a .nodes .now) e k (a .n) _ (at .loop .q) _ _ (a .counts .now) (at .loop .counts) _ passed (is-not .if1 .left)
           (is-not .before .go-to .ensures e k pl (wanted-kind (a .nodes .now) (a .code) (wanted .event-of .result) (at .loop .q) (event .1) (event .0) here)
-          (subst (λ (x : List ℕ). Stood e k (a .node) x) (passed .same) s))
+          (subst (λ (x : List ℕ). AtSpot e k (a .node) x) (passed .same) s))
           found,
     )
 

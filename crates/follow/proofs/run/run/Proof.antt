@@ -8,14 +8,14 @@ use lib.ListN.{length}
 use Rattle.meaning.specs.Expr.{Expr}
 use Rattle.meaning.proofs.Spots.{Spot}
 use Rattle.follow.specs.Plan.{Plans}
-use Rattle.follow.specs.Run.{Stood}
+use Rattle.follow.specs.Valid.{AtSpot}
 use Rattle.follow.proofs.Running.{Along, along-none, along-more, ran-stuck, ran-all}
 use Rattle.follow.proofs.run.run.Statement.{statement}
 use Rattle.follow.proofs.run.run.Tie as tie
 
 abbrev Inv-loop : tie.InvT-loop
 Inv-loop nodes plan n node counts₀ events at₀ taken₀ counts at taken =
-    (at ≤ n) × (taken ≤ length events) × ((e : Expr) (k : Spot e) → Plans nodes plan n e → Stood e k node counts₀ → Along e k events taken at counts)
+    (at ≤ n) × (taken ≤ length events) × ((e : Expr) (k : Spot e) → Plans nodes plan n e → AtSpot e k node counts₀ → Along e k events taken at counts)
 
 abbrev μ-loop : tie.MeasureT-loop
 μ-loop nodes plan n node counts₀ events at₀ taken₀ counts at taken = length events - taken

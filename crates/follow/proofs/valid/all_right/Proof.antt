@@ -1,11 +1,10 @@
 -- `follow::valid::all_right` meets its contract. The loop's invariant: it is right at each node below y. Assumes nothing.
-use mathlib.Core.Path.{sym, _∙_}
-use mathlib.Core.Bool.{false≢true}
 use Prim.Native.Nat.{_≤_, _-_}
 use native.Mathlib.Omega.{arith}
-use borrow.Author.Count.{below-none, below-more}
+use borrow.Author.Count.{below-none}
 use borrow.Author.Needs.{needs}
 use Rattle.follow.specs.Valid.{AllRight}
+use Rattle.follow.proofs.RightCounts.{all-more, not-all}
 use Rattle.follow.proofs.valid.all_right.Statement.{statement}
 use Rattle.follow.proofs.valid.all_right.Tie as tie
 
@@ -30,13 +29,16 @@ loop-less c = search needs
 loop-again : tie.Need-loop-again Inv-loop μ-loop
 loop-again c =
     let at = c .before .before .before in
-    (search needs, below-more _ (at .loop .y) (at .loop .inv .1) (sym (c .before .right-at .ensures) ∙ c .if1 .taken))
+    let a = at .before .args in
+    let call = c .before .right-at in
+    (search needs, all-more (a .nodes .now) (a .plan .now) (a .counts .now) (a .p) (at .loop .y) (call .result) (at .loop .inv .1) (call .ensures) (c .if1 .taken))
 
 returns : tie.Need-returns Inv-loop μ-loop
 returns c =
-    let call = c .before in
-    let at = call .before .before in
-    λ all. false≢true (sym (c .if1 .left) ∙ call .right-at .ensures ∙ all (at .loop .y) (call .before .loop-test .taken))
+    let at = c .before .before .before in
+    let a = at .before .args in
+    let call = c .before .right-at in
+    not-all (a .nodes .now) (a .plan .now) (a .counts .now) (a .p) (a .n) (at .loop .y) (call .result) (c .before .before .loop-test .taken) (call .ensures) (c .if1 .left)
 
 returns-2 : tie.Need-returns-2 Inv-loop μ-loop
 returns-2 c = λ y h. c .before .loop .inv .1 y (omega arith)
