@@ -1,10 +1,10 @@
 -- The prompt never hides a step: every code that continues a run is lit where the run stands. Assumes nothing.
 use mathlib.Core.Path.{_≡_, refl, sym, ap, subst, _∙_}
 use mathlib.Core.List.{List, [], _∷_, _++_, append-assoc}
-use Prim.Native.Nat.{ℕ, suc, _+_}
+use Prim.Native.Nat.{ℕ, _+_}
 use native.Mathlib.Numerals.{add-one}
 use Rattle.meaning.specs.Codes.{Has}
-use Rattle.meaning.specs.Expr.{Expr, event, Bounded, Part}
+use Rattle.meaning.specs.Expr.{Expr, Bounded}
 use Rattle.meaning.specs.Promises.{Lights}
 use Rattle.meaning.specs.State.{State, Reaches, reached, stateOf}
 use Rattle.meaning.specs.Strong.{StronglyDeterministic}
@@ -20,7 +20,7 @@ use Rattle.meaning.proofs.States.{one-state}
 use Rattle.meaning.proofs.Stays.{reached-append}
 use Rattle.meaning.proofs.WordReading.{word-iff-reading}
 use Rattle.follow.specs.Near.{LitAt}
-use Rattle.follow.specs.Plan.{Plans}
+use Rattle.plan.specs.Plan.{Plans}
 
 -- the node of a spot, as a state has it
 abbrev spotNode : (e : Expr) → Spot e → ℕ

@@ -7,7 +7,7 @@ use Rattle.meaning.specs.Expr.{Expr, empty, event, choice, sequence, repeat, si
 use Rattle.meaning.specs.Node.{Node, node, Stands}
 use Rattle.meaning.proofs.Directly.{IsEvent}
 use Rattle.procedure.specs.Entry.{kindOf, codeOf}
-use Rattle.follow.proofs.Beginnings.{among}
+use Rattle.plan.proofs.Beginnings.{among}
 
 -- no other part is an event
 no-event : {e : Expr} {c : ℕ} → ¬ IsEvent e → event c ≡ e → ⊥

@@ -27,12 +27,12 @@ use Rattle.judge.specs.declared.Admission.{Admission}
 use Rattle.judge.specs.declared.Admission.the-variants as admission
 use Rattle.follow.specs.declared.valid.Read.{Read}
 use Rattle.follow.specs.declared.valid.Read.the-variants as read
-use Rattle.follow.specs.Plan.{repeats}
+use Rattle.plan.specs.Plan.{repeats}
 use Rattle.follow.specs.StateBytes.{Decoded}
 use Rattle.follow.specs.Valid.{AtSpot, ReadOf}
 use Rattle.follow.specs.Run.{RanTo}
 use Rattle.follow.specs.Batch.{Ready, Went, unreached, went}
-use Rattle.follow.proofs.Counting.{repeats-past}
+use Rattle.plan.proofs.Ranks.{repeats-past}
 use Rattle.follow.proofs.Reached.{spot-bytes}
 use Rattle.follow.proofs.SmallCounts.{holds-small}
 

@@ -1,14 +1,14 @@
 -- The codes to light: those of the event nodes that are near, and first at the start. Assumes nothing.
-use mathlib.Core.Path.{_≡_, refl, sym, ap, subst, _∙_}
+use mathlib.Core.Path.{_≡_, sym, ap, subst, _∙_}
 use mathlib.Core.Logic.{_↔_, _⊎_, inl, inr, ⊎-elim, Iff·trans}
 use mathlib.Core.Bool.{Bool, true, false, false≢true}
 use mathlib.Core.List.{List}
-use Prim.Native.Nat.{ℕ, zero, suc, _+_, _-_, _≤_, _<_}
+use Prim.Native.Nat.{ℕ, suc, _+_, _-_, _≤_, _<_}
 use native.Mathlib.Decide.{decLe}
 use native.Mathlib.Omega.{arith}
 use Rattle.meaning.specs.Codes.{Has}
-use Rattle.meaning.specs.Expr.{Expr, event, size, root, Part, Bounded}
-use Rattle.meaning.specs.Node.{Node, node, InTable, InOrder, Stands}
+use Rattle.meaning.specs.Expr.{Expr, event, size, Part, Bounded}
+use Rattle.meaning.specs.Node.{node, InOrder, Stands}
 use Rattle.meaning.specs.Promises.{Lights}
 use Rattle.meaning.proofs.Directly.{part-place}
 use Rattle.meaning.proofs.Files.{table-bounded}
@@ -19,7 +19,7 @@ use Rattle.meaning.proofs.Place.{Place, nodeOf}
 use Rattle.procedure.specs.Entry.{held, kindOf, codeOf}
 use Rattle.judge.specs.Sets.{SetsAt, TableUpTo}
 use Rattle.judge.specs.declared.sets.Sets.{Sets}
-use Rattle.follow.specs.Plan.{Plans}
+use Rattle.plan.specs.Plan.{Plans}
 use Rattle.follow.specs.Near.{Kept, TellsNear, CodeNear, CodesNear, StartLit, LitAt}
 use Rattle.follow.proofs.EventNodes.{event-record, record-event}
 

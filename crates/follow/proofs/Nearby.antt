@@ -9,17 +9,17 @@ use borrow.Author.Tests.{eqb-true}
 use lib.Dec.{eqb, leb}
 use Rattle.meaning.specs.Expr.{Expr, empty, event, choice, sequence, repeat, Upper, upto, endless, size, root}
 use Rattle.meaning.specs.Loose.{many}
-use Rattle.meaning.specs.Node.{Node, node, Stands, bound}
+use Rattle.meaning.specs.Node.{Node, Stands}
 use Rattle.meaning.specs.Normal.{nullable}
-use Rattle.meaning.proofs.Loosened.{there, near, Near}
+use Rattle.meaning.proofs.Loosened.{there, near}
 use Rattle.meaning.proofs.Parts.{root-size}
 use Rattle.meaning.proofs.Place.{Place, nodeOf}
 use Rattle.meaning.proofs.Ways.{Entry, enters, apart, entry, Way, turns, ends, stuck, mapWay, turnOr, climb, Turned}
 use Rattle.procedure.specs.Entry.{held, kindOf}
-use Rattle.follow.proofs.Tests.{bit-one}
-use Rattle.follow.specs.Plan.{aboveAt, emptyAt, top, Own, Planned, Plans, startsOf}
+use Rattle.plan.proofs.Tests.{bit-one}
+use Rattle.plan.specs.Plan.{aboveAt, emptyAt, top, Own, Planned, startsOf}
 use Rattle.follow.specs.Near.{mayTurn, turnsAt, passesAt, TellsNear}
-use Rattle.follow.proofs.Beginnings.{Starts, does, does-not, Target, at, starts-by-test}
+use Rattle.plan.proofs.Beginnings.{Starts, does, does-not, Target, at, starts-by-test}
 
 -- the way up from node x, that node included, turns towards event node q or does not
 pub data Nears (nodes plan : List ℕ) (n q : ℕ) : ℕ → Bool → Type 0 where

@@ -1,6 +1,6 @@
 -- The bytes of a state are reached exactly if a run can stand where they say. Assumes nothing.
 use mathlib.Core.Path.{_≡_, refl, sym, ap, ap₂, subst, _∙_}
-use mathlib.Core.Logic.{_↔_, _⊎_, inl, inr, ⊎-elim, Iff·rfl, Iff·trans, Iff·and}
+use mathlib.Core.Logic.{_↔_, inl, inr, ⊎-elim, Iff·rfl, Iff·trans, Iff·and}
 use mathlib.Core.List.{List, [], _∷_, _++_, append-nil}
 use Prim.Native.Nat.{ℕ, zero, suc, _+_, _-_, _*_, _≤_, _<_}
 use native.Mathlib.Omega.{arith}
@@ -19,8 +19,8 @@ use Rattle.meaning.proofs.Before.{some-before, some-rest}
 use Rattle.meaning.proofs.Stays.{zeros, placeCounts, placeState, counters-zeros, before-state}
 use Rattle.meaning.proofs.States.{run-within, stopped-upTo, Parted, at-start, at-place, parted-reading, parted-stopped, reading-parted, reaches-items, startState, reached-iff}
 use Rattle.meaning.proofs.Spots.{Spot, start, behind, Safe}
-use Rattle.follow.specs.Plan.{repeats}
-use Rattle.follow.specs.Counts.{Clear, Held, Marked}
+use Rattle.plan.specs.Plan.{repeats}
+use Rattle.steps.specs.Counts.{Clear, Held, Marked}
 use Rattle.follow.specs.StateBytes.{Narrow, Decoded}
 use Rattle.follow.specs.Valid.{AtSpot, CanStand, Small}
 use Rattle.follow.proofs.RightCounts.{blocks-counter}

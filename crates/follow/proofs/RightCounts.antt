@@ -3,7 +3,7 @@ use mathlib.Core.Path.{_≡_, refl, sym, ap, subst, _∙_}
 use mathlib.Core.Logic.{_↔_, _⊎_, inl, inr, ⊎-elim}
 use mathlib.Core.Bool.{Bool, true, false, cond, _||_, false≢true}
 use mathlib.Core.List.{List}
-use Prim.Native.Nat.{ℕ, zero, suc, _+_, _≤_, _<_, max}
+use Prim.Native.Nat.{ℕ, zero, suc, _+_, _≤_, _<_}
 use native.Mathlib.Omega.{arith}
 use borrow.Author.Count.{below-more}
 use borrow.Author.Tests.{le-leb, lt-leb, lt-ltb, le-ltb, eq-eqb, ne-eqb, eqb-true, leb-true}
@@ -17,11 +17,11 @@ use Rattle.meaning.proofs.Place.{Place, nodeOf, codeOf, Sound}
 use Rattle.meaning.proofs.Marks.{node-from, node-below}
 use Rattle.meaning.proofs.States.{most}
 use Rattle.procedure.specs.Entry.{held, kindOf}
-use Rattle.follow.specs.Table.{startIn, emptyIn}
-use Rattle.follow.specs.Plan.{rankAt, repeats, bit, Own}
-use Rattle.follow.specs.Counts.{Clear, Held}
+use Rattle.plan.specs.Table.{startIn, emptyIn}
+use Rattle.plan.specs.Plan.{rankAt, repeats, bit, Own}
+use Rattle.steps.specs.Counts.{Clear, Held}
 use Rattle.follow.specs.Valid.{mostOf, fitsIn, rightAt, AllRight, ClearFrom}
-use Rattle.follow.proofs.Counting.{repeats-past}
+use Rattle.plan.proofs.Ranks.{repeats-past}
 use Rattle.follow.proofs.StateBytes.{below-or-from}
 
 -- ---- what holds of a row of numbers

@@ -3,30 +3,29 @@
 use mathlib.Core.Path.{_≡_, refl, sym, ap, subst, _∙_}
 use mathlib.Core.Bool.{Bool, true, false, So, true≢false}
 use mathlib.Core.List.{List}
-use Prim.Native.Nat.{ℕ, suc, _+_, _-_, _*_, _/_, _%_, _≤_, _<_}
+use Prim.Native.Nat.{ℕ, _+_, _-_, _*_, _/_, _%_, _≤_, _<_}
 use native.Mathlib.Omega.{arith}
 use native.Mathlib.Decide.{decLt}
 use lib.Dec.{eqb}
 use lib.ListN.{length, getD}
-use Rattle.meaning.specs.declared.Verdict.{Verdict}
-use Rattle.meaning.specs.declared.Verdict.the-variants.{Complete, Unfinished, Broken}
+use Rattle.meaning.specs.declared.Verdict.the-variants.{Complete, Unfinished}
 use Rattle.meaning.specs.Expr.{Expr, event, size, root, Part}
 use Rattle.meaning.specs.Normal.{nullable}
-use Rattle.meaning.specs.Node.{Node, node}
+use Rattle.meaning.specs.Node.{node}
 use Rattle.meaning.proofs.Place.{Place, nodeOf, CanEnd}
 use Rattle.meaning.proofs.Facts.{so-eqb}
 use Rattle.meaning.proofs.Files.{root-size}
 use Rattle.meaning.proofs.Spots.{Spot, start, behind, CanStop}
-use Rattle.meaning.proofs.Ways.{enters, apart, entry, way, turns, ends, way-ends}
-use Rattle.meaning.proofs.Runs.{LeadsTo, NoWay}
+use Rattle.meaning.proofs.Ways.{way-ends}
+use Rattle.meaning.proofs.Runs.{LeadsTo}
 use Rattle.meaning.proofs.EventNodes.{stands-part, no-way-stands}
-use Rattle.meaning.proofs.Follows.{Going, Gone, gone-none, gone-more, gone-done, gone-stuck, VerdictAt, complete-at, unfinished-at, broken-at}
+use Rattle.meaning.proofs.Follows.{Gone, gone-none, gone-more, gone-done, gone-stuck, VerdictAt, complete-at, unfinished-at}
 use Rattle.procedure.specs.Entry.{unpacked, held, kindOf, codeOf, leftOf, lowerOf, upperOf}
 use Rattle.procedure.specs.Tests.{Decides}
-use Rattle.follow.specs.Plan.{Plans, emptyAt, bit}
-use Rattle.follow.specs.Counts.{Marked, Unmarked}
-use Rattle.follow.specs.Step.{Stepped, steps, Started, starts, Ended, ended, open-yet}
-use Rattle.follow.specs.Step as step
+use Rattle.plan.specs.Plan.{Plans, emptyAt, bit}
+use Rattle.steps.specs.Counts.{Marked, Unmarked}
+use Rattle.steps.specs.Step.{Stepped, steps, Started, starts, Ended, ended, open-yet}
+use Rattle.steps.specs.Step as step
 use Rattle.follow.specs.Valid.{AtSpot}
 use Rattle.follow.specs.Run.{Found, Tried, leads, Nexted, goes, RanTo}
 use Rattle.follow.specs.Run as run

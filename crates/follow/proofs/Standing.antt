@@ -1,22 +1,22 @@
 -- A run can stand at a node with counters exactly if the tests of the code pass. Assumes nothing.
-use mathlib.Core.Path.{_≡_, refl, sym, ap, subst, _∙_}
+use mathlib.Core.Path.{_≡_, refl, sym, ap, _∙_}
 use mathlib.Core.Bool.{Bool, true, false, false≢true}
 use mathlib.Core.List.{List}
 use Prim.Native.Nat.{ℕ, suc, _+_, _-_, _≤_, _<_}
 use native.Mathlib.Omega.{arith}
-use lib.ListN.{length, getD}
+use lib.ListN.{length}
 use Rattle.meaning.specs.Expr.{Expr, size}
-use Rattle.meaning.specs.Node.{Node, isRepeat, repeatsBelow}
-use Rattle.meaning.proofs.Place.{Place, nodeOf, codeOf, Sound}
+use Rattle.meaning.specs.Node.{isRepeat, repeatsBelow}
+use Rattle.meaning.proofs.Place.{Place, nodeOf, Sound}
 use Rattle.meaning.proofs.Parts.{root-size}
 use Rattle.meaning.proofs.Marks.{node-below}
 use Rattle.meaning.proofs.Spots.{Spot, start, behind, Safe}
 use Rattle.procedure.specs.Entry.{held, kindOf}
 use Rattle.procedure.specs.Tests.{Decides}
-use Rattle.follow.specs.Plan.{rankAt, repeats, Plans}
-use Rattle.follow.specs.Counts.{Marked}
+use Rattle.plan.specs.Plan.{rankAt, repeats, Plans}
+use Rattle.steps.specs.Counts.{Marked}
 use Rattle.follow.specs.Valid.{AtSpot, CanStand, AllRight, ClearFrom}
-use Rattle.follow.proofs.Counting.{repeats-past}
+use Rattle.plan.proofs.Ranks.{repeats-past}
 use Rattle.follow.proofs.RightCounts.{place-event, inside, passes}
 
 -- what a test decides, by its answer

@@ -12,7 +12,7 @@ use Rattle.meaning.specs.Promises.{Lights}
 use Rattle.meaning.proofs.Loosened.{Near}
 use Rattle.meaning.proofs.Place.{Place, nodeOf}
 use Rattle.procedure.specs.Entry.{held, kindOf, upperOf}
-use Rattle.follow.specs.Plan.{emptyAt, startsOf, Plans}
+use Rattle.plan.specs.Plan.{emptyAt, startsOf, Plans}
 
 -- the way may turn at the node: a repeat has one more block where its upper bound is at least 2
 abbrev pub mayTurn : Node → Bool

@@ -16,9 +16,9 @@ use Rattle.meaning.specs.Promises.{NoneReaches}
 use Rattle.follow.specs.declared.valid.Read.{Read}
 use Rattle.follow.specs.declared.valid.Read.the-variants.{Reached, Unreached}
 use Rattle.follow.specs.StateBytes.{Decoded}
-use Rattle.follow.specs.Table.{startIn, emptyIn}
-use Rattle.follow.specs.Plan.{rankAt}
-use Rattle.follow.specs.Counts.{Marked, Unmarked}
+use Rattle.plan.specs.Table.{startIn, emptyIn}
+use Rattle.plan.specs.Plan.{rankAt}
+use Rattle.steps.specs.Counts.{Marked, Unmarked}
 
 -- the node and the counters are those of the spot
 abbrev pub AtSpot : (e : Expr) → Spot e → ℕ → List ℕ → Type 0

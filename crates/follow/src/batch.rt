@@ -1,12 +1,12 @@
 // A batch of events: from the state given to the state after those taken.
 ghost use Rattle.meaning.specs.Expr.{Expr};
 ghost use Rattle.follow.specs.Batch.{Ready, Went};
-use crate::plan;
 use crate::run;
 use crate::state;
 use crate::valid;
 use meaning::FollowAnswer;
 use meaning::Refusal;
+use plan::fill;
 
 // The answer for the n nodes of an admitted file.
 pub fn go_on(nodes: &[u64; 512], n: usize, bytes: &mut [u8], events: &[u8]) -> FollowAnswer
@@ -14,7 +14,7 @@ pub fn go_on(nodes: &[u64; 512], n: usize, bytes: &mut [u8], events: &[u8]) -> F
     ensures { λ r. ⌜ ((e : Expr) → Ready (now (nodes .entry)) n e → Went e (now (bytes .entry)) (now (events .entry)) r (now (bytes .exit))) ⌝ }
 {
     let mut table = [0u64; 512];
-    plan::fill_plan(nodes, &mut table, n);
+    fill::fill_plan(nodes, &mut table, n);
     let mut counts = [0u16; 32];
     match valid::read_state(nodes, &table, n, bytes, &mut counts) {
         valid::Read::Unreached => FollowAnswer::Refused(Refusal::Unreached),

@@ -3,11 +3,6 @@ ghost use Rattle.meaning.specs.Promises.{Follows};
 use judge::Admission;
 use meaning::FollowAnswer;
 
-mod table; // table.rt: the numbers of a plan's entry
-pub mod plan; // plan.rt: the plan of a procedure
-mod climb; // climb.rt: the way up from an event node
-mod turn; // turn.rt: the counters after a turn
-pub mod step; // step.rt: the step to an event node
 pub mod state; // state.rt: where a run stands, and its bytes
 pub mod valid; // valid.rt: whether a run can stand there
 pub mod run; // run.rt: a run of events

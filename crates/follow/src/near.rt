@@ -3,10 +3,9 @@ ghost use mathlib.Core.Path.{_≡_};
 ghost use Prim.Native.Nat.{_≤_, _<_};
 ghost use Rattle.meaning.specs.Expr.{Expr};
 ghost use Rattle.procedure.specs.Entry.{held, kindOf, unpacked};
-ghost use Rattle.follow.specs.Plan.{Plans};
+ghost use Rattle.plan.specs.Plan.{Plans};
 ghost use Rattle.follow.specs.Near.{mayTurn, turnsAt, passesAt, TellsNear};
-use crate::climb;
-use crate::table;
+use plan::table;
 use procedure::entry;
 
 // The least upper bound with which a repeat may have a second block; NO_BOUND is above it.
@@ -28,7 +27,7 @@ fn turns_at(nodes: &[u64; 512], plan: &[u64; 512], x: usize, q: usize) -> bool
     requires { ⌜ x < 512 ⌝ }
     ensures { λ r. ⌜ r ≡ turnsAt (now (nodes .entry)) (now (plan .entry)) x q ⌝ }
 {
-    if climb::starts(plan, x - 1, q) {
+    if plan::starts(plan, x - 1, q) {
         return may_turn(nodes[x]);
     }
     false

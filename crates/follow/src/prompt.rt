@@ -5,7 +5,7 @@ ghost use Prim.Native.Nat.{suc, _-_, _≤_, _<_};
 ghost use Rattle.meaning.specs.Expr.{Expr, size};
 ghost use Rattle.meaning.specs.Node.{Stands};
 ghost use Rattle.procedure.specs.Entry.{held, kindOf};
-ghost use Rattle.follow.specs.Plan.{Plans};
+ghost use Rattle.plan.specs.Plan.{Plans};
 ghost use Rattle.follow.specs.Near.{Kept, CodeNear, StartLit, LitAt};
 use crate::near;
 use judge::sets;

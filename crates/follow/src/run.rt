@@ -7,12 +7,11 @@ ghost use Rattle.meaning.proofs.Spots.{Spot, CanStop};
 ghost use Rattle.meaning.proofs.Follows.{VerdictAt};
 ghost use Rattle.procedure.specs.Entry.{held, kindOf};
 ghost use Rattle.procedure.specs.Tests.{Decides};
-ghost use Rattle.follow.specs.Plan.{Plans};
+ghost use Rattle.plan.specs.Plan.{Plans};
 ghost use Rattle.follow.specs.Valid.{AtSpot};
 ghost use Rattle.follow.specs.Run.{Found, Tried, Nexted, RanTo};
-use crate::step;
-use crate::table;
 use meaning::Verdict;
+use plan::table;
 
 // Where a run stands after some events, and how many of them it took.
 pub struct Ran {
@@ -60,9 +59,9 @@ fn go_to(
     ensures { λ r. ⌜ ((e : Expr) (k : Spot e) → Plans (now (nodes .entry)) (now (plan .entry)) n e → kindOf (held (now (nodes .entry)) q) ≡ 1 → AtSpot e k node (now (counts .entry)) → Tried e k q r (now (counts .entry)) (now (counts .exit))) ⌝ }
 {
     if node == 0 {
-        return step::start(nodes, plan, n, counts, q);
+        return steps::start(nodes, plan, n, counts, q);
     }
-    step::step(nodes, plan, n, counts, node - 1, q)
+    steps::step(nodes, plan, n, counts, node - 1, q)
 }
 
 // By an event with the code to the node after it; 0 where the code does not continue, and the counters are then as they were.
@@ -133,7 +132,7 @@ pub fn can_stop(
     if node == 0 {
         return table::empty_of(plan[n - 1]) == 1;
     }
-    step::can_end(nodes, plan, n, counts, node - 1)
+    steps::can_end(nodes, plan, n, counts, node - 1)
 }
 
 // How the run stands there that took some of so many events.

@@ -6,11 +6,11 @@ ghost use Rattle.meaning.specs.Expr.{Expr, Bounded};
 ghost use Rattle.meaning.specs.Node.{isRepeat};
 ghost use Rattle.procedure.specs.Entry.{held, unpacked};
 ghost use Rattle.procedure.specs.Tests.{Decides};
-ghost use Rattle.follow.specs.Table.{startIn};
-ghost use Rattle.follow.specs.Plan.{rankAt, Ranked, Rises, Plans};
+ghost use Rattle.plan.specs.Table.{startIn};
+ghost use Rattle.plan.specs.Plan.{rankAt, Ranked, Rises, Plans};
 ghost use Rattle.follow.specs.Valid.{mostOf, fitsIn, rightAt, AllRight, ClearFrom, CanStand, Small, ReadOf};
 use crate::state;
-use crate::table;
+use plan::table;
 use procedure::entry;
 
 // What a state's bytes say.

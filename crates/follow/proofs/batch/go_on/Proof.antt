@@ -4,7 +4,7 @@ use Prim.Native.Nat.{ℕ}
 use native.Mathlib.Omega.{arith}
 use borrow.Author.Needs.{needs}
 use Rattle.meaning.specs.Expr.{Expr}
-use Rattle.follow.specs.Plan.{Plans}
+use Rattle.plan.specs.Plan.{Plans}
 use Rattle.follow.specs.Valid.{ReadOf}
 use Rattle.follow.specs.Batch.{Ready}
 use Rattle.follow.proofs.Following.{read-below, read-long, ran-long, went-nowhere, went-on}

@@ -3,7 +3,7 @@ use mathlib.Core.Path.{refl, sym, ap, _∙_}
 use lib.Dec.{leb}
 use borrow.Author.Needs.{needs}
 use borrow.Author.Tests.{eq-eqb, ne-eqb}
-use Rattle.follow.proofs.Tests.{taken-as, left}
+use Rattle.plan.proofs.Tests.{taken-as, left}
 use Rattle.follow.proofs.near.may_turn.Statement.{statement}
 use Rattle.follow.proofs.near.may_turn.Tie as tie
 

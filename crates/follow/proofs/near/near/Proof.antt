@@ -6,9 +6,9 @@ use Prim.Native.Nat.{ℕ, _≤_, _-_}
 use native.Mathlib.Omega.{arith}
 use borrow.Author.Needs.{needs}
 use borrow.Author.Tests.{not-true, not-false}
-use Rattle.follow.specs.Plan.{aboveAt}
+use Rattle.plan.specs.Plan.{aboveAt}
 use Rattle.follow.proofs.Nearby.{Nears, over, here, shut, on, nears-near}
-use Rattle.follow.proofs.Whole.{rises}
+use Rattle.plan.proofs.Whole.{rises}
 use Rattle.follow.proofs.near.near.Statement.{statement}
 use Rattle.follow.proofs.near.near.Tie as tie
 

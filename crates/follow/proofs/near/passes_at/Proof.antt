@@ -4,7 +4,7 @@ use Prim.Native.Nat.{ℕ}
 use lib.Dec.{eqb}
 use borrow.Author.Needs.{needs}
 use borrow.Author.Tests.{eq-eqb, ne-eqb}
-use Rattle.follow.proofs.Tests.{taken, left}
+use Rattle.plan.proofs.Tests.{taken, left}
 use Rattle.follow.proofs.near.passes_at.Statement.{statement}
 use Rattle.follow.proofs.near.passes_at.Tie as tie
 

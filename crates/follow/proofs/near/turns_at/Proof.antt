@@ -1,7 +1,7 @@
 -- `follow::near::turns_at` meets its contract. Assumes nothing.
 use mathlib.Core.Path.{sym, _∙_}
 use borrow.Author.Needs.{needs}
-use Rattle.follow.proofs.Tests.{both-first, both-second}
+use Rattle.plan.proofs.Tests.{both-first, both-second}
 use Rattle.follow.proofs.near.turns_at.Statement.{statement}
 use Rattle.follow.proofs.near.turns_at.Tie as tie
 

@@ -7,7 +7,7 @@ use borrow.Author.Needs.{needs}
 use lib.ListN.{length}
 use Rattle.meaning.specs.Expr.{Expr}
 use Rattle.meaning.proofs.Spots.{Spot}
-use Rattle.follow.specs.Plan.{Plans}
+use Rattle.plan.specs.Plan.{Plans}
 use Rattle.follow.specs.Valid.{AtSpot}
 use Rattle.follow.proofs.Running.{Along, along-none, along-more, ran-stuck, ran-all}
 use Rattle.follow.proofs.run.run.Statement.{statement}

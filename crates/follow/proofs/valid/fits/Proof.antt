@@ -5,8 +5,8 @@ use native.Mathlib.Omega.{arith}
 use borrow.Author.Tests.{eq-eqb, ne-eqb}
 use borrow.Author.Needs.{needs}
 use lib.Dec.{leb}
-use Rattle.follow.specs.Table.{startIn}
-use Rattle.follow.proofs.Tests.{left, taken-as}
+use Rattle.plan.specs.Table.{startIn}
+use Rattle.plan.proofs.Tests.{left, taken-as}
 use Rattle.follow.proofs.RightCounts.{fits-outside, fits-within}
 use Rattle.follow.proofs.valid.fits.Statement.{statement}
 use Rattle.follow.proofs.valid.fits.Tie as tie

@@ -2,7 +2,7 @@
 use mathlib.Core.Path.{sym, _∙_}
 use native.Mathlib.Omega.{arith}
 use borrow.Author.Needs.{needs}
-use Rattle.follow.proofs.Whole.{rises}
+use Rattle.plan.proofs.Whole.{rises}
 use Rattle.follow.proofs.Standing.{one-node, start-decided, not-past, not-event, not-right, right-decided}
 use Rattle.follow.proofs.valid.is_reached.Statement.{statement}
 use Rattle.follow.proofs.valid.is_reached.Tie as tie

@@ -2,7 +2,7 @@
 use mathlib.Core.Path.{refl, sym, _∙_}
 use borrow.Author.Tests.{eq-eqb, ne-eqb}
 use borrow.Author.Needs.{needs}
-use Rattle.follow.proofs.Tests.{left, taken-as}
+use Rattle.plan.proofs.Tests.{left, taken-as}
 use Rattle.follow.proofs.valid.most_of.Statement.{statement}
 use Rattle.follow.proofs.valid.most_of.Tie as tie
 

@@ -4,7 +4,7 @@ use Prim.Native.Nat.{_-_}
 use native.Mathlib.Omega.{arith}
 use borrow.Author.Needs.{needs}
 use Rattle.procedure.specs.Entry.{held}
-use Rattle.follow.proofs.Links.{repeat-bit, other-bit}
+use Rattle.plan.proofs.Links.{repeat-bit, other-bit}
 use Rattle.follow.proofs.valid.repeats_of.Statement.{statement}
 use Rattle.follow.proofs.valid.repeats_of.Tie as tie
 

@@ -3,7 +3,7 @@ use mathlib.Core.Path.{refl, sym, _∙_}
 use native.Mathlib.Omega.{arith}
 use borrow.Author.Tests.{ne-eqb}
 use borrow.Author.Needs.{needs}
-use Rattle.follow.proofs.Tests.{left}
+use Rattle.plan.proofs.Tests.{left}
 use Rattle.follow.proofs.RightCounts.{right-test}
 use Rattle.follow.proofs.valid.right_at.Statement.{statement}
 use Rattle.follow.proofs.valid.right_at.Tie as tie

@@ -1,0 +1,4 @@
+-- What the contracts of the step cite.
+pub mod Climb
+pub mod Counts
+pub mod Step

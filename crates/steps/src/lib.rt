@@ -1,0 +1,84 @@
+// The step from where a run stands to an event node.
+ghost use mathlib.Core.Path.{_≡_};
+ghost use Prim.Native.Nat.{_<_};
+ghost use Rattle.meaning.specs.Expr.{Expr};
+ghost use Rattle.meaning.proofs.Place.{Place, nodeOf};
+ghost use Rattle.procedure.specs.Entry.{held, kindOf};
+ghost use Rattle.plan.specs.Plan.{Plans};
+ghost use Rattle.steps.specs.Counts.{Marked, Unmarked};
+ghost use Rattle.steps.specs.Step.{Stepped, Started, Ended};
+
+pub mod climb; // climb.rt: the way up from an event node
+mod turn; // turn.rt: the counters after a turn
+
+// From event node `at` to event node q. The counters change only where the answer is yes.
+pub fn step(
+    nodes: &[u64; 512],
+    plan: &[u64; 512],
+    n: usize,
+    counts: &mut [u16; 32],
+    at: usize,
+    q: usize,
+) -> bool
+    requires { ⌜ at < n ⌝ }
+    requires { ⌜ q < n ⌝ }
+    requires { ⌜ ((e : Expr) × Plans (now nodes) (now plan) n e) ⌝ }
+    ensures { λ r. ⌜ ((e : Expr) (p : Place e) → Plans (now (nodes .entry)) (now (plan .entry)) n e → kindOf (held (now (nodes .entry)) q) ≡ 1 → nodeOf 0 e p ≡ at → Marked (now (counts .entry)) e p → Stepped e p q r (now (counts .entry)) (now (counts .exit))) ⌝ }
+{
+    match climb::climb(nodes, plan, n, counts, at, q) {
+        climb::Turn::At(x) => {
+            turn::turn(nodes, plan, counts, x, q);
+            return true;
+        }
+        climb::Turn::Ends => {
+            return false;
+        }
+        climb::Turn::Stuck => {
+            return false;
+        }
+    }
+}
+
+// From the start to event node q. The counters change only where the answer is yes.
+pub fn start(
+    nodes: &[u64; 512],
+    plan: &[u64; 512],
+    n: usize,
+    counts: &mut [u16; 32],
+    q: usize,
+) -> bool
+    requires { ⌜ q < n ⌝ }
+    requires { ⌜ ((e : Expr) × Plans (now nodes) (now plan) n e) ⌝ }
+    ensures { λ r. ⌜ ((e : Expr) → Plans (now (nodes .entry)) (now (plan .entry)) n e → kindOf (held (now (nodes .entry)) q) ≡ 1 → Unmarked (now (counts .entry)) → Started e q r (now (counts .entry)) (now (counts .exit))) ⌝ }
+{
+    if plan::starts(plan, n - 1, q) {
+        turn::mark(nodes, plan, counts, n, q);
+        return true;
+    }
+    false
+}
+
+// Whether the run that stands at event node `at` may end there.
+pub fn can_end(
+    nodes: &[u64; 512],
+    plan: &[u64; 512],
+    n: usize,
+    counts: &[u16; 32],
+    at: usize,
+) -> bool
+    requires { ⌜ at < n ⌝ }
+    requires { ⌜ ((e : Expr) × Plans (now nodes) (now plan) n e) ⌝ }
+    ensures { λ r. ⌜ ((e : Expr) (p : Place e) → Plans (now (nodes .entry)) (now (plan .entry)) n e → nodeOf 0 e p ≡ at → Marked (now (counts .entry)) e p → Ended n e p r) ⌝ }
+{
+    match climb::climb(nodes, plan, n, counts, at, n) {
+        climb::Turn::At(_) => {
+            return false;
+        }
+        climb::Turn::Ends => {
+            return true;
+        }
+        climb::Turn::Stuck => {
+            return false;
+        }
+    }
+}
