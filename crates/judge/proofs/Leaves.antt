@@ -13,7 +13,7 @@ use Rattle.judge.specs.Sets.{SetsOf, SetsAt, OfLeaf}
 use Rattle.judge.specs.declared.conflict.Found.the-variants.{Nothing}
 use Rattle.judge.specs.declared.sets.Sets.{Sets}
 use Rattle.judge.proofs.Lowest.{names-nothing}
-use Rattle.judge.proofs.Standing.{kindNumber, standing-kind}
+use Rattle.procedure.proofs.Standing.{kindNumber, standing-kind}
 
 abbrev NoCode : ℕ → Type 0
 NoCode set = (c : ℕ) → ¬ Has set c

@@ -6,7 +6,6 @@ ghost use Prim.Native.Nat.{ℕ, _<_, _≤_};
 ghost use Rattle.meaning.specs.Codes.{Has};
 ghost use Rattle.meaning.specs.Expr.{Within, choice, sequence};
 ghost use Rattle.meaning.specs.Node.{InOrder, InTable, bound};
-ghost use Rattle.meaning.specs.Normal.{low};
 ghost use Rattle.meaning.specs.Sets.{Flexible};
 ghost use Rattle.procedure.specs.Entry.{held, kindOf, lowerOf, unpacked, upperOf};
 ghost use Rattle.judge.specs.Sets.{Joins, OfLeaf, Repeats, SetsAt, TableUpTo};
@@ -41,13 +40,6 @@ fn has_any(set: u64) -> bool
     ensures { λ r. ⌜ So r ↔ ((c : ℕ) × Has set c) ⌝ }
 {
     codes::lowest(set) < codes::LIMIT
-}
-
-// The lower bound in normal form.
-fn normal_lower(nullable: bool, lower: u16) -> u16
-    ensures { λ r. ⌜ r ≡ low nullable lower ⌝ }
-{
-    if nullable { 0 } else { lower }
 }
 
 // Whether a repeat may have a second block.
@@ -133,7 +125,10 @@ fn repeat_sets(i: usize, node: u64, b: Sets) -> Sets
     // First of the body: where another block may follow, and where it may follow or not.
     let follows = only_if(again(upper), b.first);
     let own = conflict::shared_at(i, conflict::REPEAT, b.after, follows);
-    let may_follow = only_if(flexible(normal_lower(b.nullable, lower), upper), b.first);
+    let may_follow = only_if(
+        flexible(entry::normal_lower(b.nullable, lower), upper),
+        b.first,
+    );
     Sets {
         nullable: (lower == 0) | b.nullable,
         first: b.first,

@@ -1,4 +1,4 @@
--- The laws that belong to no one function: `Nodes` for whoever reads a file, the others for the proofs of this crate.
+-- The laws that belong to no one function: `Nodes` and `Standing` for whoever reads a file, the others for the proofs of this crate.
 mod Counting
 mod Deciding
 mod Entries
@@ -6,4 +6,5 @@ mod Lines
 pub mod Nodes
 mod Openings
 mod Orders
+pub mod Standing
 mod Trailer

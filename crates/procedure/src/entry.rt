@@ -1,5 +1,6 @@
 // An entry is a node as one number: its record's 8 bytes read little-endian. Each function hands out one number of the node.
 ghost use mathlib.Core.Path.{_≡_};
+ghost use Rattle.meaning.specs.Normal.{low};
 ghost use Rattle.procedure.specs.Entry.{unpacked, kindOf, codeOf, leftOf, bodyOf, lowerOf, upperOf};
 
 // An entry is kind + CODE × code + FIRST × the first field + SECOND × the second + THIRD × the third.
@@ -68,4 +69,11 @@ pub fn upper_of(entry: u64) -> u16
     ensures { λ r. ⌜ r ≡ upperOf (unpacked entry) ⌝ }
 {
     (entry / THIRD) as u16
+}
+
+// The lower bound in normal form: none where the body has the empty word.
+pub fn normal_lower(empties: bool, lower: u16) -> u16
+    ensures { λ r. ⌜ r ≡ low empties lower ⌝ }
+{
+    if empties { 0 } else { lower }
 }

@@ -27,7 +27,7 @@ use Rattle.record.specs.declared.walk.Taken.the-variants.{To, Stuck}
 use Rattle.record.specs.Walk.{itemsIn, from, nowhere, TakesAt, Nulls, Ready, RecordOf}
 use Rattle.record.proofs.Bytes.{AllBelow, items-length, items-of-twos, twos-length, twos-of-items}
 use Rattle.record.proofs.Empties.{nulls-fewer}
-use Rattle.record.proofs.Standing.{inner-order}
+use Rattle.procedure.proofs.Standing.{inner-order}
 
 -- ---- the numbers of a reading's record
 

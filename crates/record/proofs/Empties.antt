@@ -14,7 +14,7 @@ use Rattle.meaning.specs.Node.{Node}
 use Rattle.meaning.specs.Normal.{nullable, isZero}
 use Rattle.procedure.specs.Entry.{kindOf, leftOf, lowerOf}
 use Rattle.record.specs.Walk.{NullAt, Nulls}
-use Rattle.record.proofs.Standing.{at-leaf, at-choice, at-sequence, at-repeat}
+use Rattle.procedure.proofs.Standing.{at-leaf, at-choice, at-sequence, at-repeat}
 
 zero-test : (n : ℕ) → eqb n 0 ≡ isZero n
 zero-test zero = eq-eqb 0 0 refl

@@ -5,7 +5,6 @@ mod Bounds
 mod Bytes
 mod Empties
 mod Heads
-mod Standing
 mod Stays
 mod Takes
 mod Walks

@@ -19,7 +19,7 @@ use Rattle.record.specs.Walk.{noItem, from, Takes, restOf, TakesAt, Ends
 use Rattle.record.proofs.Blocks.{Stay, stay-none, stay-more, stay-broken, stay-ended, stay-off, no-body, no-closing, no-event}
 use Rattle.record.proofs.Bytes.{item-there, begins-with}
 use Rattle.record.proofs.Heads.{reading-long}
-use Rattle.record.proofs.Standing.{at-repeat}
+use Rattle.procedure.proofs.Standing.{at-repeat}
 
 -- k blocks of the repeat at node i stand from `place` to `at`, and any blocks are these and more
 unfoldable pub StayAt : (ℕ → Node) → List ℕ → ℕ → ℕ → ℕ → ℕ → ℕ → Type 0

@@ -21,7 +21,7 @@ use Rattle.record.specs.Walk.{noItem, Inside, from, nowhere, Takes, rest
 use Rattle.record.proofs.Bytes.{item-there, outside-at}
 use Rattle.record.proofs.Empties.{nulls-fewer}
 use Rattle.record.proofs.Heads.{Heads, reading-heads, empty-reading, reading-empty}
-use Rattle.record.proofs.Standing.{part-start, at-leaf, at-choice, at-sequence, at-repeat, at-pair}
+use Rattle.procedure.proofs.Standing.{part-start, at-leaf, at-choice, at-sequence, at-repeat, at-pair}
 use Rattle.record.proofs.Takes.{takes-nothing, takes-nowhere, empty-nowhere, event-taken, event-nowhere, choice-left, choice-right, sequence-both, sequence-nowhere}
 
 -- ---- how a walk ends

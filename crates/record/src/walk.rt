@@ -36,18 +36,11 @@ fn wide(x: u16) -> usize
     x as usize
 }
 
-// The lower bound in normal form.
-fn normal_lower(null: bool, lower: u16) -> u16
-    ensures { λ r. ⌜ r ≡ low null lower ⌝ }
-{
-    if null { 0 } else { lower }
-}
-
 // Whether a repeat may have k blocks. `null` says whether its body has the empty word.
 fn may_stop(entry: u64, null: bool, k: usize) -> bool
     ensures { λ r. ⌜ Decides ((low null (lowerOf (unpacked entry)) ≤ k) × Within k (bound (upperOf (unpacked entry)))) r ⌝ }
 {
-    if k < wide(normal_lower(null, entry::lower_of(entry))) {
+    if k < wide(entry::normal_lower(null, entry::lower_of(entry))) {
         return false;
     }
     let upper = entry::upper_of(entry);

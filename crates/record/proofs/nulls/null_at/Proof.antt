@@ -5,7 +5,7 @@ use borrow.Author.Needs.{needs}
 use Rattle.meaning.specs.Node.{Node}
 use Rattle.procedure.specs.Entry.{held}
 use Rattle.record.proofs.Empties.{null-leaf, null-repeat, null-choice, null-sequence}
-use Rattle.record.proofs.Standing.{at-pair, last-below}
+use Rattle.procedure.proofs.Standing.{at-pair, last-order}
 use Rattle.record.proofs.nulls.null_at.Statement.{statement}
 use Rattle.record.proofs.nulls.null_at.Tie as tie
 
@@ -17,7 +17,7 @@ held-by a = held (a .args .nodes .now)
 some : (m : tie.Else1) → 1 ≤ m .before .before .before .args .i
 some m =
     let a = m .before .before .before in
-    last-below (held-by a) (a .args .i) (m .before .kind-of .result) (m .before .kind-of .ensures) (m .if1 .left) (a .pre .1 .0)
+    last-order (held-by a) (a .args .i) (m .before .kind-of .result) (m .before .kind-of .ensures) (m .if1 .left) (a .pre .1 .0) .1
 
 left-below : (m : tie.After-left-of) → m .left-of .result < m .before .before .before .before .before .before .args .i
 left-below m =

@@ -109,16 +109,19 @@ part-start s (choice l r) = omega arith
 part-start s (sequence l r) = omega arith
 part-start s (repeat b lower upper) = omega arith
 
--- a node that is no leaf has one before it
-pub last-below : (g : ℕ → Node) (i kind : ℕ) → kind ≡ kindOf (g i) → 2 ≤ kind → InOrder g i → 1 ≤ i
-last-below g i kind told k o = go (o .1) (o .3) (told ∙ standing-kind g i (o .0) (o .1) (o .2) (o .3))
+-- a node that is no leaf has one before it, which is in order
+pub last-order : (g : ℕ → Node) (i kind : ℕ) → kind ≡ kindOf (g i) → 2 ≤ kind → InOrder g i → InOrder g (i - 1) × (1 ≤ i)
+last-order g i kind told k o = go (o .1) (o .2) (o .3) (told ∙ standing-kind g i (o .0) (o .1) (o .2) (o .3))
   where
-    go : (e : Expr) → root (o .0) e ≡ i → kind ≡ kindNumber e → 1 ≤ i
-    go empty h m = absurd (omega arith)
-    go (event c) h m = absurd (omega arith)
-    go (choice l r) h m = omega (arith, root-size (o .0 + size l) r)
-    go (sequence l r) h m = omega (arith, root-size (o .0 + size l) r)
-    go (repeat b lower upper) h m = omega (arith, root-size (o .0) b)
+    s : ℕ
+    s = o .0
+
+    go : (e : Expr) → Stands g s e → root s e ≡ i → kind ≡ kindNumber e → InOrder g (i - 1) × (1 ≤ i)
+    go empty p h m = absurd (omega arith)
+    go (event c) p h m = absurd (omega arith)
+    go (choice a b) p h m = let e = root-size (s + size a) b in ((s + size a, b, p .1, omega arith), omega arith)
+    go (sequence a b) p h m = let e = root-size (s + size a) b in ((s + size a, b, p .1, omega arith), omega arith)
+    go (repeat b lower upper) p h m = let e = root-size s b in ((s, b, p .0, omega arith), omega arith)
 
 -- a node with two children
 pub at-pair : (D : Type 0) (g : ℕ → Node) (s i kind left : ℕ) → kind ≡ kindOf (g i) → left ≡ leftOf (g i) → 2 ≤ kind → ¬ (kind ≡ 4)
