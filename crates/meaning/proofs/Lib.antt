@@ -45,3 +45,4 @@ pub mod StateBytes
 pub mod Follows
 pub mod EventNodes
 pub mod Pieces
+pub mod Meet

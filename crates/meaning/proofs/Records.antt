@@ -1,6 +1,6 @@
 -- The record's bytes determine the items of a reading: every item names a node of the expression, and an event's code follows
 -- from its node.
-use mathlib.Core.Path.{_≡_, refl, subst}
+use mathlib.Core.Path.{_≡_, refl, ap, subst}
 use mathlib.Core.Logic.{inl, inr}
 use mathlib.Core.List.{List, [], _∷_, _++_}
 use Prim.Native.Nat.{ℕ, _+_, _/_, _%_, _≤_, _<_}
@@ -57,6 +57,11 @@ reading-names s (repeat b lower upper) x (times j lo up p) =
     (λ y a. all-wider s s b whole (omega arith) (λ i q h. inl h) y (reading-names s b y a)) j x p
 
 -- ---- bytes to items
+
+-- the record of two lists of items, one after the other
+pub record-append : (x y : List Item) → recordBytes (x ++ y) ≡ recordBytes x ++ recordBytes y
+record-append [] y = refl
+record-append (a ∷ x) y = ap {B = List ℕ} (λ z. itemNumber a % 256 ∷ itemNumber a / 256 % 256 ∷ z) (record-append x y)
 
 -- two items of one expression with the same number are the same
 item-unique : (e : Expr) → size e ≤ 512 → (a b : Item) → Names 0 e a → Names 0 e b → itemNumber a ≡ itemNumber b → a ≡ b
