@@ -22,13 +22,12 @@ use Rattle.meaning.specs.File.{Holds, Admitted}
 use Rattle.meaning.specs.State.{ReachesBytes}
 use Rattle.meaning.specs.Record.{recordBytes}
 use Rattle.meaning.specs.Promises.{VerdictOf, complete, unfinished, broken, GoesOn, Follows, Writes, Checks}
-use Rattle.meaning.proofs.Before.{some-reading}
 use Rattle.meaning.proofs.Files.{holds-bounded}
 use Rattle.meaning.proofs.Refusals.{holds-unique, admitted-not-barred}
 use Rattle.meaning.proofs.WordReading.{word-iff-reading}
 use Rattle.meaning.proofs.OneRecord.{readings-agree, same-codes-same-reading}
 use Rattle.meaning.proofs.Records.{record-append, record-determines-items}
-use Rattle.meaning.proofs.States.{startState, at-start, parted-reaches, reading-parted}
+use Rattle.meaning.proofs.States.{startState, reaches-start, reading-parted}
 use Rattle.meaning.proofs.StateBytes.{start-all-zero}
 use Rattle.meaning.proofs.Outcomes.{admitted-unique, writes-unique, checks-unique}
 
@@ -59,9 +58,7 @@ accepted-one-reading f e bytes h (Checks.yes d x g r b) =
 
 -- no event leads to the start
 starts : {f : List ℕ} {e : Expr} → Admitted f e → ReachesBytes e [] startBytes
-starts {e = e} adm =
-    let t = some-reading 0 e (holds-bounded (adm .holds)) in
-    (startState e, parted-reaches e [] (t .0) (at-start (t .0) (t .1)), sym (start-all-zero e))
+starts {e = e} adm = (startState e, reaches-start e (holds-bounded (adm .holds)), sym (start-all-zero e))
 
 -- from there the answer speaks of the events given alone
 from-start : {f : List ℕ} {e : Expr} → Admitted f e → (events : List ℕ) (t : ℕ) (v : Verdict) (after : List ℕ)

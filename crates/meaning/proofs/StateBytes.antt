@@ -2,8 +2,8 @@
 use mathlib.Core.Path.{_≡_, refl, sym, ap, ap₂, _∙_, subst, subst⁻¹}
 use mathlib.Core.Logic.{_↔_, inl, inr, ⊎-elim}
 use mathlib.Core.Bool.{Bool, true, false, cond}
-use mathlib.Core.List.{List, [], _∷_, _++_, cons≢nil, head-eq-of-cons-eq, tail-eq-of-cons-eq}
-use Prim.Native.Nat.{ℕ, zero, suc, _+_, _≤_, _<_}
+use mathlib.Core.List.{List, [], _∷_, _++_, head-eq-of-cons-eq, tail-eq-of-cons-eq}
+use Prim.Native.Nat.{ℕ, suc, _+_, _≤_, _<_}
 use native.Mathlib.Omega.{arith}
 use lib.Dec.{eqb}
 use lib.ListN.{length, take, replicate, length-append, replicate-append-replicate}
@@ -14,6 +14,7 @@ use Rattle.meaning.specs.Bytes.{inTwos}
 use Rattle.meaning.specs.Node.{Node, node, InTable, empty-line, event-line, choice-line, sequence-line, repeat-line, Stands, isRepeat, repeatsBelow}
 use Rattle.meaning.specs.File.{Holds, count, nodeAt}
 use Rattle.meaning.specs.State.{stop, padded, stateBytes, Reaches, ReachesBytes}
+use Rattle.meaning.proofs.Twos.{Narrow, narrow-append, narrow-take, narrow-zeros, narrow-unique}
 use Rattle.meaning.proofs.Place.{Place, Sound}
 use Rattle.meaning.proofs.Facts.{low-le, length-both}
 use Rattle.meaning.proofs.Marks.{node-below}
@@ -36,38 +37,7 @@ bytes-reached-iff e h bytes = (
   λ t. let w = some-run e h (t .0) (t .1) in (w .0, (spotState e (t .0), w .1 .there, t .2)),
 )
 
--- ---- numbers in two bytes each
-
--- every number fits in two bytes
-abbrev pub Narrow : List ℕ → Type 0
-Narrow [] = Unit {0}
-Narrow (n ∷ ns) = (n < 65536) × Narrow ns
-
--- so in two lists, in the first of a list, and in zeros
-narrow-append : (x y : List ℕ) → Narrow x → Narrow y → Narrow (x ++ y)
-narrow-append [] y h g = g
-narrow-append (n ∷ x) y h g = (h .0, narrow-append x y (h .1) g)
-
-narrow-take : (m : ℕ) (x : List ℕ) → Narrow x → Narrow (take m x)
-narrow-take zero x h = tt
-narrow-take (suc m) [] h = tt
-narrow-take (suc m) (n ∷ x) h = (h .0, narrow-take m x (h .1))
-
-narrow-zeros : (m : ℕ) → Narrow (replicate m 0)
-narrow-zeros zero = tt
-narrow-zeros (suc m) = (omega arith, narrow-zeros m)
-
--- numbers that fit are determined by their bytes
-pub narrow-unique : (x y : List ℕ) → Narrow x → Narrow y → inTwos x ≡ inTwos y → x ≡ y
-narrow-unique [] [] h g e = refl
-narrow-unique [] (n ∷ y) h g e = absurd (cons≢nil (sym e))
-narrow-unique (m ∷ x) [] h g e = absurd (cons≢nil e)
-narrow-unique (m ∷ x) (n ∷ y) h g e =
-    let low-byte = head-eq-of-cons-eq e in
-    let high-byte = head-eq-of-cons-eq (tail-eq-of-cons-eq e) in
-    let same : m ≡ n = omega arith in
-    let rest = narrow-unique x y (h .1) (g .1) (tail-eq-of-cons-eq (tail-eq-of-cons-eq e)) in
-    λ i. same i ∷ rest i
+-- ---- counters, filled up to 32
 
 -- up to 32 counters are determined by what they are filled up to
 padded-unique : (x y : List ℕ) → length x ≡ length y → length x ≤ 32 → padded x ≡ padded y → x ≡ y
