@@ -103,7 +103,7 @@ part-list l m =
     (λ w h. ⊎-elim (λ k. inl (h .0, k, h .2)) (λ k. inr (h .0, k, h .2)) (h .1))
 
 -- all conflicts, as a list
-conflict-list : (s : ℕ) (e : Expr) → Listed (λ (w : Named). ConflictAt s e (w .0) (w .1) (w .2))
+pub conflict-list : (s : ℕ) (e : Expr) → Listed (λ (w : Named). ConflictAt s e (w .0) (w .1) (w .2))
 unfolding own-list part-list
 conflict-list s empty = own-list s empty
 conflict-list s (event d) = own-list s (event d)

@@ -19,7 +19,7 @@ use Rattle.meaning.specs.State.{opensNext, begun, stop, counters, reache
 use Rattle.meaning.proofs.Place.{Place, nodeOf, Blocks, blocks, Rest, Before}
 use Rattle.meaning.proofs.Facts.{append-split, last-split, length-both}
 use Rattle.meaning.proofs.Items.{codes-append, codes-upTo}
-use Rattle.meaning.proofs.Marks.{node-from, node-below}
+use Rattle.meaning.proofs.Marks.{left-not-right}
 use Rattle.meaning.proofs.WordReading.{word-iff-reading}
 use Rattle.meaning.proofs.Stays.{reached-append, zeros, placeCounts, placeState, before-state}
 use Rattle.meaning.proofs.States.{run-within, one-state, Stopped, nowhere, ended, stopped-upTo, Parted, at-start, at-place, parted-reading, parted-stopped, reading-parted, reaches-items}
@@ -60,24 +60,17 @@ alike-rest s (sequence l r) (inr p) (inr q) y a t = alike-rest (s + size l) r p 
 alike-rest s (repeat b lower upper) p q y a (cat u v t (cat w z o d)) =
     cat u v (alike-rest s b (p .0) (q .0) u (a .0) t) (cat w z o (alike-blocks (low (nullable b) lower) (suc (p .1)) (suc (q .1)) upper z (a .1) d))
 
--- no node is in both parts
-sides-apart : (s : ℕ) (l r : Expr) (p : Place l) (q : Place r) → ¬ (nodeOf s l p ≡ nodeOf (s + size l) r q)
-sides-apart s l r p q h =
-    let a = node-below s l p in
-    let b = node-from (s + size l) r q in
-    omega arith
-
 -- places with one node and the same counters are alike
 same-alike : (s : ℕ) (e : Expr) (p q : Place e) → nodeOf s e p ≡ nodeOf s e q → placeCounts e p ≡ placeCounts e q → Alike e p q
 same-alike s empty p q n c = absurd p
 same-alike s (event d) p q n c = tt
 same-alike s (choice l r) (inl p) (inl q) n c = same-alike s l p q n (append-cancel-right (placeCounts l p) (placeCounts l q) (zeros r) c)
-same-alike s (choice l r) (inl p) (inr q) n c = absurd (sides-apart s l r p q n)
-same-alike s (choice l r) (inr p) (inl q) n c = absurd (sides-apart s l r q p (sym n))
+same-alike s (choice l r) (inl p) (inr q) n c = absurd (left-not-right s l r p q n)
+same-alike s (choice l r) (inr p) (inl q) n c = absurd (left-not-right s l r q p (sym n))
 same-alike s (choice l r) (inr p) (inr q) n c = same-alike (s + size l) r p q n (append-cancel-left (zeros l) (placeCounts r p) (placeCounts r q) c)
 same-alike s (sequence l r) (inl p) (inl q) n c = same-alike s l p q n (append-cancel-right (placeCounts l p) (placeCounts l q) (zeros r) c)
-same-alike s (sequence l r) (inl p) (inr q) n c = absurd (sides-apart s l r p q n)
-same-alike s (sequence l r) (inr p) (inl q) n c = absurd (sides-apart s l r q p (sym n))
+same-alike s (sequence l r) (inl p) (inr q) n c = absurd (left-not-right s l r p q n)
+same-alike s (sequence l r) (inr p) (inl q) n c = absurd (left-not-right s l r q p (sym n))
 same-alike s (sequence l r) (inr p) (inr q) n c = same-alike (s + size l) r p q n (append-cancel-left (zeros l) (placeCounts r p) (placeCounts r q) c)
 same-alike s (repeat b lower upper) p q n c =
     let t = last-split (placeCounts b (p .0)) (placeCounts b (q .0)) _ _ c in (same-alike s b (p .0) (q .0) n (t .0), t .1)

@@ -5,6 +5,7 @@ pub mod CodeSets
 pub mod Items
 pub mod Marks
 pub mod Parts
+pub mod Twos
 pub mod WordReading
 pub mod FirstWorded
 pub mod Steps
@@ -15,7 +16,6 @@ pub mod Unique
 pub mod OneRecord
 pub mod Fork
 pub mod Diverge
-pub mod Least
 pub mod Lowest
 pub mod AfterWorded
 pub mod Files
@@ -45,3 +45,4 @@ pub mod StateBytes
 pub mod Follows
 pub mod EventNodes
 pub mod Pieces
+pub mod Meet

@@ -1,8 +1,11 @@
 -- Properties with a finite list of exactly what they hold of, and how such lists are made from one another.
 -- The lists are plain data and compute; what they mean is proved beside them.
-use mathlib.Core.Path.{_≡_, refl, sym, subst}
+use mathlib.Core.Path.{_≡_, refl, sym, subst, subst⁻¹}
 use mathlib.Core.Logic.{_⊎_, inl, inr, ⊎-elim, ite}
 use mathlib.Core.List.{List, [], _∷_, _++_, flatMap, filter}
+use Prim.Native.Nat.{ℕ, _≤_}
+use native.Mathlib.Decide.{decLe}
+use native.Mathlib.Omega.{arith}
 
 module _ {A : Type 0} where
   -- the element is in the list
@@ -156,3 +159,18 @@ module _ {A : Type 0} {P : A → Type 0} where
   unfoldable pub holds : Discrete A → Listed P → (a : A) → Dec (P a)
   unfolding decided member-decided
   holds d l a = decided (l .sound a) (l .complete a) (member-decided d a (l .items))
+
+  -- the least of some that have the property, by a number of each
+  least-in : (f : A → ℕ) (x : List A) → ((a : A) → Member a x → P a) → (a : A) → P a
+      → (m : A) × P m × (f m ≤ f a) × ((b : A) → Member b x → f m ≤ f b)
+  least-in f [] s a p = (a, p, omega arith, λ b h. absurd h)
+  least-in f (c ∷ x) s a p = let t = least-in f x (λ b h. s b (inr h)) a p in go (t .0) (t .1) (t .2) (t .3) (decLe (f (t .0)) (f c))
+    where
+      go : (m : A) → P m → f m ≤ f a → ((b : A) → Member b x → f m ≤ f b) → Dec (f m ≤ f c)
+          → (n : A) × P n × (f n ≤ f a) × ((b : A) → Member b (c ∷ x) → f n ≤ f b)
+      go m q l rest (yes h) = (m, q, l, λ b. ⊎-elim (λ e. subst⁻¹ (λ z. f m ≤ f z) e h) (rest b))
+      go m q l rest (no h) = (c, s c (inl refl), omega arith, λ b. ⊎-elim (λ e. subst⁻¹ (λ z. f c ≤ f z) e (omega arith)) (λ k. omega (arith, rest b k)))
+
+  -- where the property holds of something, it holds of one with the least number
+  pub least : (f : A → ℕ) → Listed P → (a : A) → P a → (m : A) × P m × ((b : A) → P b → f m ≤ f b)
+  least f l a p = let t = least-in f (l .items) (l .sound) a p in (t .0, t .1, λ b q. t .3 b (l .complete b q))

@@ -36,7 +36,7 @@ use Rattle.meaning.proofs.Files.{holds-bounded}
 use Rattle.meaning.proofs.Refusals.{refused-unique, holds-unique, holds-not-refused, admitted-not-barred, barred-unique}
 
 -- an admitted file holds one expression
-admitted-unique : (f : List ℕ) (e d : Expr) → Admitted f e → Admitted f d → e ≡ d
+pub admitted-unique : (f : List ℕ) (e d : Expr) → Admitted f e → Admitted f d → e ≡ d
 admitted-unique f e d a b = holds-unique f e d (a .holds) (b .holds)
 
 -- ---- Judge
@@ -81,7 +81,7 @@ goes-on-unique e d u events t n v w z y a b =
     let verdicts = verdict-unique e u events n v w verdict (b .verdict) in
     (λ i. follow.Followed (same i) (verdicts i), state-unique e d (u ++ take n events) z y state (b .state))
 
-follows-unique : (f state events : List ℕ) (a b : FollowAnswer) (z y : List ℕ) → Follows f state events a z → Follows f state events b y → (a ≡ b) × (z ≡ y)
+pub follows-unique : (f state events : List ℕ) (a b : FollowAnswer) (z y : List ℕ) → Follows f state events a z → Follows f state events b y → (a ≡ b) × (z ≡ y)
 follows-unique f state events a b z y (Follows.refused r p) (Follows.refused q o) = (ap follow.Refused (barred-unique f r q p o), refl)
 follows-unique f state events a b z y (Follows.refused r p) (Follows.unreached e o n) = absurd (admitted-not-barred f e r o p)
 follows-unique f state events a b z y (Follows.refused r p) (Follows.followed e u t v after o n g) = absurd (admitted-not-barred f e r o p)
@@ -121,7 +121,7 @@ one-reading {f} {e = e} {d = d} {x = x} {y = y} a r c b s k =
 no-fit : {x y : List Item} {n : ℕ} → x ≡ y → n < length (recordBytes x) → length (recordBytes y) ≤ n → ⊥
 no-fit {x} {y} {n} e l m = let k = subst (λ (z : List Item). n < length (recordBytes z)) e l in omega arith
 
-writes-unique : (f run space : List ℕ) (a b : WriteAnswer) (z y : List ℕ) → Writes f run space a z → Writes f run space b y → (a ≡ b) × (z ≡ y)
+pub writes-unique : (f run space : List ℕ) (a b : WriteAnswer) (z y : List ℕ) → Writes f run space a z → Writes f run space b y → (a ≡ b) × (z ≡ y)
 writes-unique f run space a b z y (Writes.refused r p) (Writes.refused q o) = (ap write.Refused (barred-unique f r q p o), refl)
 writes-unique f run space a b z y (Writes.refused r p) (Writes.too-long e o n) = absurd (admitted-not-barred f e r o p)
 writes-unique f run space a b z y (Writes.refused r p) (Writes.incomplete e o l n) = absurd (admitted-not-barred f e r o p)
@@ -161,7 +161,7 @@ write-one-outcome f run space out other z y p q =
 
 -- ---- Check
 
-checks-unique : (f bytes : List ℕ) (a b : CheckAnswer) → Checks f bytes a → Checks f bytes b → a ≡ b
+pub checks-unique : (f bytes : List ℕ) (a b : CheckAnswer) → Checks f bytes a → Checks f bytes b → a ≡ b
 checks-unique f bytes a b (Checks.refused r p) (Checks.refused q o) = ap check.Refused (refused-unique f r q p o)
 checks-unique f bytes a b (Checks.refused r p) (Checks.yes e x h m n) = absurd (holds-not-refused f e r h p)
 checks-unique f bytes a b (Checks.refused r p) (Checks.no e h n) = absurd (holds-not-refused f e r h p)

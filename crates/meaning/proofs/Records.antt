@@ -1,14 +1,15 @@
 -- The record's bytes determine the items of a reading: every item names a node of the expression, and an event's code follows
 -- from its node.
-use mathlib.Core.Path.{_≡_, refl, subst}
+use mathlib.Core.Path.{_≡_, refl, sym, ap, subst}
 use mathlib.Core.Logic.{inl, inr}
-use mathlib.Core.List.{List, [], _∷_, _++_}
+use mathlib.Core.List.{List, [], _∷_, _++_, map, cons≢nil, head-eq-of-cons-eq, tail-eq-of-cons-eq}
 use Prim.Native.Nat.{ℕ, _+_, _/_, _%_, _≤_, _<_}
 use native.Mathlib.Omega.{arith}
 use Rattle.meaning.specs.Expr.{Expr, empty, event, choice, sequence, repeat, size, Part}
 use Rattle.meaning.specs.Lists.{nil, one, left, right, cat, Power, none, more, times}
 use Rattle.meaning.specs.Reading.{Item, place, opening, closing, Block, block, Reading}
 use Rattle.meaning.specs.Record.{itemNumber, recordBytes}
+use Rattle.meaning.proofs.Twos.{Narrow, narrow-unique}
 use Rattle.meaning.proofs.Parts.{part-within, part-unique}
 
 -- ---- every item of a reading names a node of the part
@@ -58,6 +59,11 @@ reading-names s (repeat b lower upper) x (times j lo up p) =
 
 -- ---- bytes to items
 
+-- the record of two lists of items, one after the other
+pub record-append : (x y : List Item) → recordBytes (x ++ y) ≡ recordBytes x ++ recordBytes y
+record-append [] y = refl
+record-append (a ∷ x) y = ap {B = List ℕ} (λ z. itemNumber a % 256 ∷ itemNumber a / 256 % 256 ∷ z) (record-append x y)
+
 -- two items of one expression with the same number are the same
 item-unique : (e : Expr) → size e ≤ 512 → (a b : Item) → Names 0 e a → Names 0 e b → itemNumber a ≡ itemNumber b → a ≡ b
 item-unique e l (place i c) (place j d) x y h =
@@ -73,29 +79,28 @@ item-unique e l (closing r) (place j d) x y h = absurd (omega (arith, part-withi
 item-unique e l (closing r) (opening q) x y h = absurd (omega arith)
 item-unique e l (closing r) (closing q) x y h = let same : r ≡ q = omega arith in cc
 
-item-small : (e : Expr) → size e ≤ 512 → (a : Item) → Names 0 e a → itemNumber a < 65536
-item-small e l (place i c) h = omega (arith, part-within 0 e i (event c) h)
-item-small e l (opening r) h = omega arith
-item-small e l (closing r) h = omega arith
+-- every item's number fits in two bytes
+names-narrow : (e : Expr) → size e ≤ 512 → (x : List Item) → AllName 0 e x → Narrow (map itemNumber x)
+names-narrow e l [] a = tt
+names-narrow e l (place i c ∷ x) a = (omega (arith, part-within 0 e i (event c) (a .0)), names-narrow e l x (a .1))
+names-narrow e l (opening r ∷ x) a = (omega (arith, a .0), names-narrow e l x (a .1))
+names-narrow e l (closing r ∷ x) a = (omega (arith, a .0), names-narrow e l x (a .1))
 
-names-unique : (e : Expr) → size e ≤ 512 → (x y : List Item) → AllName 0 e x → AllName 0 e y → recordBytes x ≡ recordBytes y → x ≡ y
+names-unique : (e : Expr) → size e ≤ 512 → (x y : List Item) → AllName 0 e x → AllName 0 e y → map itemNumber x ≡ map itemNumber y → x ≡ y
 names-unique e l [] [] a b h = refl
-names-unique e l [] (i ∷ y) a b h = let z : _≡_ {A = ℕ} 0 1 = cc in absurd (omega arith)
-names-unique e l (i ∷ x) [] a b h = let z : _≡_ {A = ℕ} 0 1 = cc in absurd (omega arith)
+names-unique e l [] (j ∷ y) a b h = absurd (cons≢nil (sym h))
+names-unique e l (i ∷ x) [] a b h = absurd (cons≢nil h)
 names-unique e l (i ∷ x) (j ∷ y) a b h =
-    let low : itemNumber i % 256 ≡ itemNumber j % 256 = cc in
-    let high : itemNumber i / 256 % 256 ≡ itemNumber j / 256 % 256 = cc in
-    let tail : recordBytes x ≡ recordBytes y = cc in
-    let m = item-small e l i (a .0) in
-    let n = item-small e l j (b .0) in
-    let number : itemNumber i ≡ itemNumber j = omega arith in
-    let head = item-unique e l i j (a .0) (b .0) number in
-    let rest = names-unique e l x y (a .1) (b .1) tail in
+    let head = item-unique e l i j (a .0) (b .0) (head-eq-of-cons-eq h) in
+    let rest = names-unique e l x y (a .1) (b .1) (tail-eq-of-cons-eq h) in
     λ k. head k ∷ rest k
 
 -- for readings of one file's expression, the record's bytes determine the items
 pub record-determines-items : (e : Expr) → size e ≤ 512 → (x y : List Item) → Reading 0 e x → Reading 0 e y → recordBytes x ≡ recordBytes y → x ≡ y
-record-determines-items e l x y a b h = names-unique e l x y (reading-names 0 e x a) (reading-names 0 e y b) h
+record-determines-items e l x y a b h =
+    let here = reading-names 0 e x a in
+    let there = reading-names 0 e y b in
+    names-unique e l x y here there (narrow-unique (map itemNumber x) (map itemNumber y) (names-narrow e l x here) (names-narrow e l y there) h)
 
 -- an event's code follows from its node
 pub code-of-node : (e : Expr) (i c d : ℕ) → Part 0 e i (event c) → Part 0 e i (event d) → c ≡ d

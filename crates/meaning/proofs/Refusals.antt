@@ -68,14 +68,13 @@ record FirstFailure (f : List ℕ) (r : Refusal) : Type 0 where
   reports : Reports f stage at
   is : r ≡ refusalAt stage at
 
+-- of two numbers neither of which is less
+neither-less : (i j : ℕ) → ¬ (i < j) → ¬ (j < i) → i ≡ j
+neither-less i j a b = omega arith
+
 -- the lowest node of which something fails is one
 lowest-one : {P : ℕ → Type 0} {i j : ℕ} → ((k : ℕ) → k < i → P k) → ¬ P i → ((k : ℕ) → k < j → P k) → ¬ P j → i ≡ j
-lowest-one {i = i} {j = j} below-i not-i below-j not-j = split (decLt i j) (decLt j i)
-  where
-    split : Dec (i < j) → Dec (j < i) → i ≡ j
-    split (yes l) d = absurd (not-i (below-j i l))
-    split (no l) (yes m) = absurd (not-j (below-i j m))
-    split (no l) (no m) = omega arith
+lowest-one {i = i} {j = j} below-i not-i below-j not-j = neither-less i j (λ l. not-i (below-j i l)) (λ l. not-j (below-i j l))
 
 -- repeats are counted upwards
 repeats-rise : (g : ℕ → Node) (i k : ℕ) → repeatsBelow g i ≤ repeatsBelow g (k + i)
@@ -87,12 +86,8 @@ repeats-mono g i j l = let e : (j - i) + i ≡ j = omega arith in subst (λ (n :
 
 -- the 33rd repeat is one
 repeat-one : (g : ℕ → Node) (i j : ℕ) → repeatsBelow g i ≡ 32 → repeatsBelow g (suc i) ≡ 33 → repeatsBelow g j ≡ 32 → repeatsBelow g (suc j) ≡ 33 → i ≡ j
-repeat-one g i j a b c d = split (decLt i j) (decLt j i)
-  where
-    split : Dec (i < j) → Dec (j < i) → i ≡ j
-    split (yes l) m = absurd (omega (arith, repeats-mono g (suc i) j l))
-    split (no l) (yes m) = absurd (omega (arith, repeats-mono g (suc j) i m))
-    split (no l) (no m) = omega arith
+repeat-one g i j a b c d =
+    neither-less i j (λ l. omega (arith, repeats-mono g (suc i) j l)) (λ l. omega (arith, repeats-mono g (suc j) i l))
 
 reports-one : (f : List ℕ) (k i j : ℕ) → Reports f k i → Reports f k j → i ≡ j
 reports-one f zero i j a b = cc
@@ -104,12 +99,7 @@ reports-one f (suc (suc (suc (suc (suc zero))))) i j a b = omega arith
 reports-one f (suc (suc (suc (suc (suc (suc k)))))) i j a b = repeat-one (nodeAt f) i j (a .0) (a .1) (b .0) (b .1)
 
 stage-one : (f : List ℕ) (j k : ℕ) → Passed f j → ¬ Test f j → Passed f k → ¬ Test f k → j ≡ k
-stage-one f j k a b c d = split (decLt j k) (decLt k j)
-  where
-    split : Dec (j < k) → Dec (k < j) → j ≡ k
-    split (yes l) m = absurd (b (passed-test f j k l c))
-    split (no l) (yes m) = absurd (d (passed-test f k j m a))
-    split (no l) (no m) = omega arith
+stage-one f j k a b c d = neither-less j k (λ l. b (passed-test f j k l c)) (λ l. d (passed-test f k j l a))
 
 -- every node of two parts and the node above them is in order if each is
 pair-in-order : (g : ℕ → Node) (s l r : ℕ) → InOrder g (s + l + r) → ((j : ℕ) → s ≤ j → j < s + l → InOrder g j)

@@ -1,12 +1,12 @@
 -- The bytes of a state: those that runs reach are those of the spots, and with a file's bounds they determine the state.
-use mathlib.Core.Path.{_≡_, refl, sym, ap, _∙_, subst, subst⁻¹}
+use mathlib.Core.Path.{_≡_, refl, sym, ap, ap₂, _∙_, subst, subst⁻¹}
 use mathlib.Core.Logic.{_↔_, inl, inr, ⊎-elim}
 use mathlib.Core.Bool.{Bool, true, false, cond}
-use mathlib.Core.List.{List, [], _∷_, _++_, cons≢nil, head-eq-of-cons-eq, tail-eq-of-cons-eq}
-use Prim.Native.Nat.{ℕ, zero, suc, _+_, _≤_, _<_}
+use mathlib.Core.List.{List, [], _∷_, _++_, head-eq-of-cons-eq, tail-eq-of-cons-eq}
+use Prim.Native.Nat.{ℕ, suc, _+_, _≤_, _<_}
 use native.Mathlib.Omega.{arith}
 use lib.Dec.{eqb}
-use lib.ListN.{length, take, replicate, length-append}
+use lib.ListN.{length, take, replicate, length-append, replicate-append-replicate}
 use lib.Seq.{take-take, take-append-seam}
 use Rattle.meaning.specs.Expr.{Expr, empty, event, choice, sequence, repeat, size, Upper, upto, endless, Within, Bounded}
 use Rattle.meaning.specs.Normal.{nullable, low}
@@ -14,12 +14,13 @@ use Rattle.meaning.specs.Bytes.{inTwos}
 use Rattle.meaning.specs.Node.{Node, node, InTable, empty-line, event-line, choice-line, sequence-line, repeat-line, Stands, isRepeat, repeatsBelow}
 use Rattle.meaning.specs.File.{Holds, count, nodeAt}
 use Rattle.meaning.specs.State.{stop, padded, stateBytes, Reaches, ReachesBytes}
+use Rattle.meaning.proofs.Twos.{Narrow, narrow-append, narrow-take, narrow-zeros, narrow-unique}
 use Rattle.meaning.proofs.Place.{Place, Sound}
 use Rattle.meaning.proofs.Facts.{low-le, length-both}
 use Rattle.meaning.proofs.Marks.{node-below}
 use Rattle.meaning.proofs.Files.{holds-bounded}
 use Rattle.meaning.proofs.Stays.{zeros, placeCounts, counters-zeros}
-use Rattle.meaning.proofs.States.{most}
+use Rattle.meaning.proofs.States.{startState, most}
 use Rattle.meaning.proofs.Spots.{Spot, start, behind, Safe}
 use Rattle.meaning.proofs.Runs.{spotState, RunAt, reaches-run, some-run}
 
@@ -36,38 +37,7 @@ bytes-reached-iff e h bytes = (
   λ t. let w = some-run e h (t .0) (t .1) in (w .0, (spotState e (t .0), w .1 .there, t .2)),
 )
 
--- ---- numbers in two bytes each
-
--- every number fits in two bytes
-abbrev pub Narrow : List ℕ → Type 0
-Narrow [] = Unit {0}
-Narrow (n ∷ ns) = (n < 65536) × Narrow ns
-
--- so in two lists, in the first of a list, and in zeros
-narrow-append : (x y : List ℕ) → Narrow x → Narrow y → Narrow (x ++ y)
-narrow-append [] y h g = g
-narrow-append (n ∷ x) y h g = (h .0, narrow-append x y (h .1) g)
-
-narrow-take : (m : ℕ) (x : List ℕ) → Narrow x → Narrow (take m x)
-narrow-take zero x h = tt
-narrow-take (suc m) [] h = tt
-narrow-take (suc m) (n ∷ x) h = (h .0, narrow-take m x (h .1))
-
-narrow-zeros : (m : ℕ) → Narrow (replicate m 0)
-narrow-zeros zero = tt
-narrow-zeros (suc m) = (omega arith, narrow-zeros m)
-
--- numbers that fit are determined by their bytes
-pub narrow-unique : (x y : List ℕ) → Narrow x → Narrow y → inTwos x ≡ inTwos y → x ≡ y
-narrow-unique [] [] h g e = refl
-narrow-unique [] (n ∷ y) h g e = absurd (cons≢nil (sym e))
-narrow-unique (m ∷ x) [] h g e = absurd (cons≢nil e)
-narrow-unique (m ∷ x) (n ∷ y) h g e =
-    let low-byte = head-eq-of-cons-eq e in
-    let high-byte = head-eq-of-cons-eq (tail-eq-of-cons-eq e) in
-    let same : m ≡ n = omega arith in
-    let rest = narrow-unique x y (h .1) (g .1) (tail-eq-of-cons-eq (tail-eq-of-cons-eq e)) in
-    λ i. same i ∷ rest i
+-- ---- counters, filled up to 32
 
 -- up to 32 counters are determined by what they are filled up to
 padded-unique : (x y : List ℕ) → length x ≡ length y → length x ≤ 32 → padded x ≡ padded y → x ≡ y
@@ -96,13 +66,36 @@ place-long (sequence l r) (inl p) = length-both (placeCounts l p) (zeros l) (zer
 place-long (sequence l r) (inr p) = length-both (zeros l) (zeros l) (placeCounts r p) (zeros r) refl (place-long r p)
 place-long (repeat b lower upper) p = length-both (placeCounts b (p .0)) (zeros b) _ (0 ∷ []) (place-long b (p .0)) refl
 
+-- zeros after zeros
+zeros-both : (x y : List ℕ) → x ≡ replicate (length x) 0 → y ≡ replicate (length y) 0 → x ++ y ≡ replicate (length (x ++ y)) 0
+zeros-both x y h g =
+    ap₂ _++_ h g ∙ replicate-append-replicate (length x) (length y) 0 ∙ ap (λ (n : ℕ). replicate n 0) (sym (length-append x y))
+
+-- a zero for each of some number of repeats
+zeros-all : (e : Expr) → zeros e ≡ replicate (length (zeros e)) 0
+zeros-all empty = refl
+zeros-all (event c) = refl
+zeros-all (choice l r) = zeros-both (zeros l) (zeros r) (zeros-all l) (zeros-all r)
+zeros-all (sequence l r) = zeros-both (zeros l) (zeros r) (zeros-all l) (zeros-all r)
+zeros-all (repeat b lower upper) = zeros-both (zeros b) (0 ∷ []) (zeros-all b) refl
+
+-- zeros are filled up to 32
+padded-zeros : (m : ℕ) → padded (replicate m 0) ≡ replicate 32 0
+padded-zeros m =
+    let swapped : m + 32 ≡ 32 + m = omega arith in
+    let here = replicate-append-replicate {A = ℕ} m 32 0 in
+    let there = replicate-append-replicate {A = ℕ} 32 m 0 in
+    ap (take 32) (here ∙ ap (λ (n : ℕ). replicate n 0) swapped ∙ sym there) ∙ take-append-seam (replicate 32 0) (replicate m 0)
+
+-- the start state is all zero
+pub start-all-zero : (e : Expr) → stateBytes (startState e) ≡ replicate 66 0
+start-all-zero e =
+    let counts = counters-zeros (λ i. 0) 0 e (λ i l k. refl) ∙ zeros-all e in
+    ap (λ (x : List ℕ). inTwos (0 ∷ x)) (ap padded counts ∙ padded-zeros (length (zeros e)))
+
 -- zeros fit
 zeros-narrow : (e : Expr) → Narrow (zeros e)
-zeros-narrow empty = tt
-zeros-narrow (event c) = tt
-zeros-narrow (choice l r) = narrow-append (zeros l) (zeros r) (zeros-narrow l) (zeros-narrow r)
-zeros-narrow (sequence l r) = narrow-append (zeros l) (zeros r) (zeros-narrow l) (zeros-narrow r)
-zeros-narrow (repeat b lower upper) = narrow-append (zeros b) (0 ∷ []) (zeros-narrow b) (omega arith, tt)
+zeros-narrow e = subst⁻¹ Narrow (zeros-all e) (narrow-zeros (length (zeros e)))
 
 -- a counter within its bound holds at most its most
 stop-most : (lower k : ℕ) (upper : Upper) → Within k upper → stop lower upper k ≤ most lower upper

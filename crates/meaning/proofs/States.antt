@@ -98,6 +98,10 @@ parted-reaches e a y t =
 abbrev pub startState : Expr → State
 startState e = record { node = 0; counts = counters (λ i. 0) 0 e }
 
+-- the run without events reaches it
+pub reaches-start : (e : Expr) → Bounded e → Reaches e [] (startState e)
+reaches-start e h = let t = some-reading 0 e h in parted-reaches e [] (t .0) (at-start (t .0) (t .1))
+
 -- the largest number that a counter holds: the upper bound; with none, the larger of 1 and the lower bound
 abbrev pub most : ℕ → Upper → ℕ
 most lower (upto n) = n
@@ -175,16 +179,13 @@ parted-reachable e a y (at-place p b t k c r) =
 
 -- a state is reached by some run exactly if it is reachable
 pub reached-iff : (e : Expr) → Bounded e → (z : State) → ((u : List ℕ) × Reaches e u z) ↔ Reachable e z
-reached-iff e h z = (λ t. forth (t .0) z (t .1), ⊎-elim (λ s. subst⁻¹ Reached s start) at)
+reached-iff e h z = (λ t. forth (t .0) z (t .1), ⊎-elim (λ s. subst⁻¹ Reached s ([], reaches-start e h)) at)
   where
     Reached : State → Type 0
     Reached y = (u : List ℕ) × Reaches e u y
 
     forth : (u : List ℕ) (y : State) → Reaches e u y → Reachable e y
     forth u y (reaches x r c) = let t = reading-parted e h x (length u) r (run-within x u c) in parted-reachable e (upTo x (length u)) (t .0) (t .1)
-
-    start : Reached (startState e)
-    start = let t = some-reading 0 e h in ([], parted-reaches e [] (t .0) (at-start (t .0) (t .1)))
 
     at : (i : ℕ) × (z .node ≡ i + 1) × CountersAt 0 e i (z .counts) → Reached z
     at t =

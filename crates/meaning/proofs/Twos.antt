@@ -1,0 +1,38 @@
+-- Numbers in two bytes each: those that fit are determined by their bytes.
+use mathlib.Core.Path.{_≡_, refl, sym}
+use mathlib.Core.List.{List, [], _∷_, _++_, cons≢nil, head-eq-of-cons-eq, tail-eq-of-cons-eq}
+use Prim.Native.Nat.{ℕ, zero, suc, _<_}
+use native.Mathlib.Omega.{arith}
+use lib.ListN.{take, replicate}
+use Rattle.meaning.specs.Bytes.{inTwos}
+
+-- every number fits in two bytes
+abbrev pub Narrow : List ℕ → Type 0
+Narrow [] = Unit {0}
+Narrow (n ∷ ns) = (n < 65536) × Narrow ns
+
+-- so in two lists, in the first of a list, and in zeros
+pub narrow-append : (x y : List ℕ) → Narrow x → Narrow y → Narrow (x ++ y)
+narrow-append [] y h g = g
+narrow-append (n ∷ x) y h g = (h .0, narrow-append x y (h .1) g)
+
+pub narrow-take : (m : ℕ) (x : List ℕ) → Narrow x → Narrow (take m x)
+narrow-take zero x h = tt
+narrow-take (suc m) [] h = tt
+narrow-take (suc m) (n ∷ x) h = (h .0, narrow-take m x (h .1))
+
+pub narrow-zeros : (m : ℕ) → Narrow (replicate m 0)
+narrow-zeros zero = tt
+narrow-zeros (suc m) = (omega arith, narrow-zeros m)
+
+-- numbers that fit are determined by their bytes
+pub narrow-unique : (x y : List ℕ) → Narrow x → Narrow y → inTwos x ≡ inTwos y → x ≡ y
+narrow-unique [] [] h g e = refl
+narrow-unique [] (n ∷ y) h g e = absurd (cons≢nil (sym e))
+narrow-unique (m ∷ x) [] h g e = absurd (cons≢nil e)
+narrow-unique (m ∷ x) (n ∷ y) h g e =
+    let low-byte = head-eq-of-cons-eq e in
+    let high-byte = head-eq-of-cons-eq (tail-eq-of-cons-eq e) in
+    let same : m ≡ n = omega arith in
+    let rest = narrow-unique x y (h .1) (g .1) (tail-eq-of-cons-eq (tail-eq-of-cons-eq e)) in
+    λ i. same i ∷ rest i
