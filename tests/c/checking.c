@@ -43,6 +43,10 @@ static const struct check_case {
     {"a{0,2}", 0, 2, {4097, 0}},
     {"a{0,2}", 0, 1, {8193}},
     {"a{0,2}", 0, 4, {4097, 0, 8193, 8193}},
+    /* a closing of another repeat, a record of another procedure */
+    {"(a{0,1}b){0,2}", 0, 6, {4100, 4097, 0, 8196, 2, 8196}},
+    {"(a{0,1}b){0,2}", 1, 6, {4100, 4097, 0, 8193, 2, 8196}},
+    {"ab", 0, 6, {4100, 4097, 0, 8193, 2, 8196}},
 };
 enum { CHECKS = sizeof checks / sizeof checks[0] };
 

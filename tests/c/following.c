@@ -42,10 +42,13 @@ static const struct run_case {
     /* a counter without an upper bound stops at the lower one */
     {"a{3,}", "aaaaa", 5, SEQ_COMPLETE, {1, {3}}},
     {"a{0,}", "aaaaa", 5, SEQ_COMPLETE, {1, {1}}},
+    {"(a+e){3,}", "aaaaa", 5, SEQ_COMPLETE, {1, {1}}},
     /* a new stay counts anew, and a repeat that is left counts 0 */
     {"(a{2,3}b){1,2}", "aabaa", 5, SEQ_UNFINISHED, {1, {2, 2}}},
     {"(a{2,3}b){1,2}", "aab", 3, SEQ_COMPLETE, {3, {0, 1}}},
     {"(a{2,3}b){1,2}", "aabab", 4, SEQ_BROKEN, {1, {1, 2}}},
+    {"(a{2,2}b){2,2}", "aabab", 4, SEQ_BROKEN, {1, {1, 2}}},
+    {"(a{2,2}b){2,2}", "aabaab", 6, SEQ_COMPLETE, {3, {0, 2}}},
     {"a{1,2}b{1,2}", "aabb", 4, SEQ_COMPLETE, {3, {0, 2}}},
     {"(a{0,2}+b)c", "bc", 2, SEQ_COMPLETE, {5, {0}}},
     {"(a{0,2}+b)c", "c", 1, SEQ_COMPLETE, {5, {0}}},
@@ -124,6 +127,23 @@ static void follow_nothing(struct tally *t)
                   (struct slice){none, 0}, (struct followed){SEQ_DONE, 0, SEQ_COMPLETE}, state);
 }
 
+/* 32 repeats of 4,096 blocks each, all begun: no run that reaches this could ever be typed. */
+static void follow_from_the_last_blocks(struct tally *t)
+{
+    static const uint8_t one[1];
+    struct procedure p = nested_of("{4096,4096}", SEQ_MOST_REPEATS);
+    const struct slice file = {p.bytes, p.length};
+    struct state last = {1, {0}};
+    uint8_t state[SEQ_STATE_BYTES];
+    for (int i = 0; i < SEQ_MOST_REPEATS; i++)
+        last.counters[i] = 4096;
+    state_bytes(&last, state);
+    expect_follow(t, "the last of 4,096 blocks in each of 32 repeats", file, (struct slice){state, sizeof state},
+                  (struct slice){one, 0}, (struct followed){SEQ_DONE, 0, SEQ_COMPLETE}, state);
+    expect_follow(t, "one event more", file, (struct slice){state, sizeof state}, (struct slice){one, 1},
+                  (struct followed){SEQ_DONE, 0, SEQ_BROKEN}, state);
+}
+
 static const struct state_case {
     const char *procedure;
     struct state state;
@@ -181,6 +201,7 @@ void following(struct tally *t)
     follow_runs(t);
     follow_high_codes(t);
     follow_nothing(t);
+    follow_from_the_last_blocks(t);
     refuse_states(t);
     refuse_state_lengths(t);
 }

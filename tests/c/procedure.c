@@ -121,6 +121,14 @@ struct procedure procedure_of(const char *notation)
     return made;
 }
 
+struct procedure nested_of(const char *bounds, int repeats)
+{
+    char notation[400] = "a";
+    for (int i = 0; i < repeats; i++)
+        strcat(notation, bounds);
+    return procedure_of(notation);
+}
+
 struct procedure with_text(const struct procedure *from, size_t text_length)
 {
     struct procedure made = {{0}, from->length + text_length};

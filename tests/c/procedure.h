@@ -20,6 +20,9 @@ struct procedure {
 
 struct procedure procedure_of(const char *notation);
 
+/* a with so many repeats around it, all with the same bounds. */
+struct procedure nested_of(const char *bounds, int repeats);
+
 /* The same nodes behind so many bytes of free text. */
 struct procedure with_text(const struct procedure *from, size_t text_length);
 

@@ -162,23 +162,14 @@ static void refuse_several(struct tally *t)
     expect_refused(t, "a repeat at node 0 with body 65,535", &p, (struct judgement){5, 0, 0, 0});
 }
 
-/* a with so many repeats around it. */
-static struct procedure nested(const char *bounds, int repeats)
-{
-    char notation[400] = "a";
-    for (int i = 0; i < repeats; i++)
-        strcat(notation, bounds);
-    return procedure_of(notation);
-}
-
 /* 6 stands before 7. */
 static void refuse_repeats(struct tally *t)
 {
-    struct procedure p = nested("{0,1}", SEQ_MOST_REPEATS + 1);
+    struct procedure p = nested_of("{0,1}", SEQ_MOST_REPEATS + 1);
     expect_refused(t, "33 repeats", &p, (struct judgement){6, 33, 0, 0});
-    p = nested("{0,2}", SEQ_MOST_REPEATS + 1);
+    p = nested_of("{0,2}", SEQ_MOST_REPEATS + 1);
     expect_refused(t, "33 repeats and a conflict", &p, (struct judgement){6, 33, 0, 0});
-    p = nested("{0,2}", SEQ_MOST_REPEATS);
+    p = nested_of("{0,2}", SEQ_MOST_REPEATS);
     expect_refused(t, "32 repeats and a conflict", &p, (struct judgement){7, 2, 4, 0});
 }
 
