@@ -18,4 +18,5 @@ mod Following
 mod Nearby
 mod EventNodes
 mod Lighting
+mod Prompting
 pub mod Continuing
