@@ -5,6 +5,7 @@ mod text; // text.rt: the line of an answer
 use libc::STDOUT_FILENO;
 use stream::read_letter;
 use stream::read_slice;
+use text::print_bytes;
 use text::print_end;
 use text::print_number;
 
@@ -12,6 +13,8 @@ use text::print_number;
 const MOST: usize = 1048576;
 
 const JUNK: u32 = 0xdead_beef;
+
+const WIDE_JUNK: u64 = 0xdead_beef_dead_beef;
 
 fn answer_judge(file: &mut [u8]) -> bool {
     let length = read_slice(file);
@@ -27,6 +30,27 @@ fn answer_judge(file: &mut [u8]) -> bool {
     print_end()
 }
 
+fn answer_follow(file: &mut [u8], state: &mut [u8], events: &mut [u8]) -> bool {
+    let length = read_slice(file);
+    let held = read_slice(state);
+    let count = read_slice(events);
+    let mut taken = WIDE_JUNK;
+    let mut verdict = JUNK;
+    let answer = seqp::seq_follow(
+        &file[..length],
+        &mut state[..held],
+        &events[..count],
+        &mut taken,
+        &mut verdict,
+    );
+    io::write_all(STDOUT_FILENO, b"F");
+    print_number(answer as u64);
+    print_number(taken);
+    print_number(verdict as u64);
+    print_bytes(state, held);
+    print_end()
+}
+
 fn answer_check(file: &mut [u8], bytes: &mut [u8]) -> bool {
     let length = read_slice(file);
     let count = read_slice(bytes);
@@ -38,11 +62,24 @@ fn answer_check(file: &mut [u8], bytes: &mut [u8]) -> bool {
     print_end()
 }
 
+fn answer_prompt(file: &mut [u8], state: &mut [u8]) -> bool {
+    let length = read_slice(file);
+    let held = read_slice(state);
+    let mut set = WIDE_JUNK;
+    let answer = seqp::seq_prompt(&file[..length], &state[..held], &mut set);
+    io::write_all(STDOUT_FILENO, b"P");
+    print_number(answer as u64);
+    print_number(set);
+    print_end()
+}
+
 // Answers one call by its letter, and says whether there was one. There is a buffer for each slice that a call can have.
 fn answer_one(first: &mut [u8], second: &mut [u8], third: &mut [u8]) -> bool {
     match read_letter() {
         b'C' => answer_check(first, second),
+        b'F' => answer_follow(first, second, third),
         b'J' => answer_judge(first),
+        b'P' => answer_prompt(first, second),
         _ => false,
     }
 }

@@ -17,11 +17,11 @@ use Rattle.meaning.specs.State.{stateBytes}
 use Rattle.meaning.specs.Promises.{Follows}
 use Rattle.meaning.proofs.Marks.{node-below}
 use Rattle.meaning.proofs.Files.{holds-bounded}
-use Rattle.meaning.proofs.Spots.{Spot, start, behind}
+use Rattle.meaning.proofs.Spots.{Spot, start, behind, Safe}
 use Rattle.meaning.proofs.Runs.{spotState}
 use Rattle.meaning.proofs.Follows.{VerdictAt, going-follows}
 use Rattle.procedure.specs.Entry.{held}
-use Rattle.procedure.proofs.Nodes.{nodes-counted, nodes-listed}
+use Rattle.procedure.proofs.Nodes.{nodes-counted, nodes-kept, nodes-listed}
 use Rattle.judge.specs.Admission.{Entered, Admits}
 use Rattle.judge.specs.declared.Admission.{Admission}
 use Rattle.judge.specs.declared.Admission.the-variants as admission
@@ -33,6 +33,7 @@ use Rattle.follow.specs.Valid.{AtSpot, ReadOf}
 use Rattle.follow.specs.Run.{RanTo}
 use Rattle.follow.specs.Batch.{Ready, Went, unreached, went}
 use Rattle.plan.proofs.Ranks.{repeats-past}
+use Rattle.follow.specs.Near.{Kept}
 use Rattle.follow.proofs.Reached.{spot-bytes}
 use Rattle.follow.proofs.SmallCounts.{holds-small}
 
@@ -76,14 +77,20 @@ module _ (f nodes : List ℕ) (a : Admission) (n : ℕ) (told : Admits f nodes a
   entered : Entered f nodes n
   entered = subst (Admits f nodes) same told
 
+  pub admitted-expr : (e : Expr) × Ready nodes n e × Admitted f e
+  admitted-expr = (entered .filled .expr, entered-ready entered, entered .admitted)
+
   pub admitted-ready : (e : Expr) × Ready nodes n e
-  admitted-ready = (entered .filled .expr, entered-ready entered)
+  admitted-ready = (admitted-expr .0, admitted-expr .1)
+
+  pub admitted-kept : Kept nodes n
+  admitted-kept = nodes-kept (entered .filled)
 
   pub follows-admitted : (state events after : List ℕ) (r : FollowAnswer) → ((e : Expr) → Ready nodes n e → Went e state events r after)
       → Follows f state events r after
   follows-admitted state events after r went-on =
-      let e = entered .filled .expr in
-      follows-went f state events after e r (entered .admitted) (went-on e (entered-ready entered))
+      let e = admitted-expr .0 in
+      follows-went f state events after e r (admitted-expr .2) (went-on e (admitted-expr .1))
 
 -- ---- the state read
 
@@ -123,6 +130,15 @@ read-below e bytes counts a node n same told is =
 pub read-long : (e : Expr) (bytes counts : List ℕ) (a : Read) (node : ℕ) → ReadOf e bytes counts a → a ≡ read.Reached node → length bytes ≡ 66
 read-long e bytes counts a node told is = decoded-long (subst (ReadOf e bytes counts) is told .0)
 
+-- the bytes read are those of a spot where a run can stand
+pub read-spot : {nodes : List ℕ} {n : ℕ} (e : Expr) (bytes counts : List ℕ) (a : Read) (node : ℕ) → Ready nodes n e → ReadOf e bytes counts a
+    → a ≡ read.Reached node → (k : Spot e) × Safe e k × AtSpot e k node counts × (bytes ≡ stateBytes (spotState e k))
+read-spot e bytes counts a node ready told is =
+    let t = subst (ReadOf e bytes counts) is told in
+    let k = t .1 .0 in
+    let s = t .1 .2 in
+    (k, t .1 .1, s, t .0 .written ∙ stood-bytes e k node counts (few-repeats-in ready) (t .0 .long) s)
+
 -- there are 32 counters after the run too
 pub ran-long : (e : Expr) (bytes counts events d : List ℕ) (a : Read) (node taken at : ℕ) → ReadOf e bytes counts a → a ≡ read.Reached node
     → ((k : Spot e) → AtSpot e k node counts → RanTo e k events taken at d)
@@ -143,11 +159,9 @@ pub went-on : {nodes : List ℕ} {n : ℕ} (e : Expr) (bytes events counts d aft
     → after ≡ inTwos (at ∷ d)
     → Went e bytes events (follow.Followed taken v) after
 went-on e bytes events counts d after a node at taken v ready told is run-on stands-so written =
-    let few = few-repeats-in ready in
-    let t = subst (ReadOf e bytes counts) is told in
-    let k = t .1 .0 in
-    let s = t .1 .2 in
-    let ran = run-on k s in
+    let came = read-spot e bytes counts a node ready told is in
+    let ran = run-on (came .0) (came .2) in
     let j = ran .spot in
-    subst (λ (x : List ℕ). Went e bytes events (follow.Followed taken v) x) (sym (written ∙ stood-bytes e j at d few (spot-long e j at d (ran .stood)) (ran .stood)))
-    (went k j taken v (t .1 .1) (t .0 .written ∙ stood-bytes e k node counts few (t .0 .long) s) (ran .going) (stands-so j (ran .stood)))
+    let left = stood-bytes e j at d (few-repeats-in ready) (spot-long e j at d (ran .stood)) (ran .stood) in
+    subst (λ (x : List ℕ). Went e bytes events (follow.Followed taken v) x) (sym (written ∙ left))
+    (went (came .0) j taken v (came .1) (came .3) (ran .going) (stands-so j (ran .stood)))

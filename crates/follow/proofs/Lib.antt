@@ -9,4 +9,5 @@ mod Following
 mod Nearby
 mod EventNodes
 mod Lighting
+mod Prompting
 pub mod Continuing

@@ -6,12 +6,16 @@ use native.Mathlib.Omega.{arith}
 use Rattle.meaning.specs.declared.JudgeAnswer.{JudgeAnswer}
 use Rattle.meaning.specs.declared.JudgeAnswer.the-variants as judge
 use Rattle.meaning.specs.declared.CheckAnswer.{CheckAnswer}
-use Rattle.meaning.specs.Numbers.{JudgeNumbers, checked, checkNumbers, judged, judgeNumbers, row}
-use Rattle.meaning.specs.Promises.{Checks, CheckPromise, Judges, JudgePromise}
+use Rattle.meaning.specs.declared.FollowAnswer.{FollowAnswer}
+use Rattle.meaning.specs.declared.PromptAnswer.{PromptAnswer}
+use Rattle.meaning.specs.Numbers.{JudgeNumbers, checked, checkNumbers, followNumbers, judged, judgeNumbers, promptNumbers, row}
+use Rattle.meaning.specs.Promises.{Checks, CheckPromise, Follows, FollowPromise, Judges, JudgePromise, Prompts, PromptPromise}
 use Rattle.meaning.proofs.Refusals.{barred-node-small}
 use Rattle.seqp.specs.declared.numbers.Row.{Row}
 use Rattle.seqp.specs.declared.numbers.CheckRow.{CheckRow}
-use Rattle.seqp.specs.Shown.{checkShown, shown}
+use Rattle.seqp.specs.declared.numbers.FollowRow.{FollowRow}
+use Rattle.seqp.specs.declared.numbers.PromptRow.{PromptRow}
+use Rattle.seqp.specs.Shown.{checkShown, followed, followShown, prompted, promptShown, shown}
 
 -- the node that Judge reports is told whole
 node-small : (f : List ℕ) (a : JudgeAnswer) → Judges f a → judgeNumbers a .node < 512
@@ -33,7 +37,17 @@ judge-shown f a out j e =
 pub arm : {A B : Type 0} (f : A → B) {x y : A} {out : B} → x ≡ y → out ≡ f y → out ≡ f x
 arm f told out = out ∙ sym (ap f told)
 
+pub follow-shown : (f state events after : List ℕ) (a : FollowAnswer) (out : FollowRow) → Follows f state events a after
+    → out ≡ followShown (followNumbers a) → FollowPromise f state events (followed (out .answer) (out .taken) (out .verdict)) after
+unfolding FollowPromise
+follow-shown f state events after a out w e = (a, w, ap (λ (r : FollowRow). followed (r .answer) (r .taken) (r .verdict)) e)
+
 pub check-shown : (f bytes : List ℕ) (a : CheckAnswer) (out : CheckRow) → Checks f bytes a → out ≡ checkShown (checkNumbers a)
     → CheckPromise f bytes (checked (out .answer) (out .yes))
 unfolding CheckPromise
 check-shown f bytes a out c e = (a, c, ap (λ (r : CheckRow). checked (r .answer) (r .yes)) e)
+
+pub prompt-shown : (f state : List ℕ) (a : PromptAnswer) (out : PromptRow) → Prompts f state a → out ≡ promptShown (promptNumbers a)
+    → PromptPromise f state (prompted (out .answer) (out .set))
+unfolding PromptPromise
+prompt-shown f state a out p e = (a, p, ap (λ (r : PromptRow). prompted (r .answer) (r .set)) e)

@@ -1,11 +1,14 @@
 // An answer as the request's numbers.
 ghost use mathlib.Core.Path.{_≡_};
 ghost use Prim.Native.Nat.{ℕ};
-ghost use Rattle.meaning.specs.Numbers.{checkNumbers, judged, judgeNumbers, row};
-ghost use Rattle.seqp.specs.Shown.{checkShown, shown};
+ghost use Rattle.meaning.specs.Numbers.{checkNumbers, followNumbers, judged, judgeNumbers, promptNumbers, row, verdictNumber};
+ghost use Rattle.seqp.specs.Shown.{checkShown, followShown, promptShown, shown};
 use meaning::CheckAnswer;
+use meaning::FollowAnswer;
 use meaning::JudgeAnswer;
+use meaning::PromptAnswer;
 use meaning::Refusal;
+use meaning::Verdict;
 
 // The numbers of an answer, as C gets them.
 pub struct Row {
@@ -64,6 +67,43 @@ pub fn of_judge(answer: JudgeAnswer) -> Row
     }
 }
 
+// What Follow gives.
+pub struct FollowRow {
+    pub answer: u32,
+    pub taken: u64,
+    pub verdict: u32,
+}
+
+fn of_verdict(verdict: Verdict) -> u32
+    ensures { λ r. ⌜ r ≡ verdictNumber verdict ⌝ }
+{
+    match verdict {
+        Verdict::Complete => 0,
+        Verdict::Unfinished => 1,
+        Verdict::Broken => 2,
+    }
+}
+
+pub fn of_follow(answer: FollowAnswer) -> FollowRow
+    ensures { λ r. ⌜ r ≡ followShown (followNumbers answer) ⌝ }
+{
+    match answer {
+        FollowAnswer::Followed(taken, verdict) => FollowRow {
+            answer: 0,
+            taken: taken,
+            verdict: of_verdict(verdict),
+        },
+        FollowAnswer::Refused(refusal) => {
+            let row = row_of(refusal);
+            FollowRow {
+                answer: row.answer,
+                taken: 0,
+                verdict: 0,
+            }
+        }
+    }
+}
+
 // What Check gives.
 pub struct CheckRow {
     pub answer: u32,
@@ -81,6 +121,30 @@ pub fn of_check(answer: CheckAnswer) -> CheckRow
             CheckRow {
                 answer: row.answer,
                 yes: 0,
+            }
+        }
+    }
+}
+
+// What Prompt gives.
+pub struct PromptRow {
+    pub answer: u32,
+    pub set: u64,
+}
+
+pub fn of_prompt(answer: PromptAnswer) -> PromptRow
+    ensures { λ r. ⌜ r ≡ promptShown (promptNumbers answer) ⌝ }
+{
+    match answer {
+        PromptAnswer::Lit(set) => PromptRow {
+            answer: 0,
+            set: set,
+        },
+        PromptAnswer::Refused(refusal) => {
+            let row = row_of(refusal);
+            PromptRow {
+                answer: row.answer,
+                set: 0,
             }
         }
     }

@@ -1,6 +1,6 @@
 -- `follow::batch::go_on` meets its contract. Assumes nothing.
 use mathlib.Core.List.{List}
-use Prim.Native.Nat.{ℕ}
+use Prim.Native.Nat.{ℕ, _≤_}
 use native.Mathlib.Omega.{arith}
 use borrow.Author.Needs.{needs}
 use Rattle.meaning.specs.Expr.{Expr}
@@ -52,20 +52,28 @@ enum-told c = search needs
 enum-known-node : tie.Need-enum-known-node
 enum-known-node c = search needs
 
+-- the node that came is one of the n, or the start
+came-below : (c : tie.After-node) → c .node .given .0 .0 ≤ begun (c .before .before) .args .n
+came-below c =
+    let r = c .before .before in
+    let ready = begun r .pre in
+    let e = ready .0 in
+    read-below e (bytes r) (counts r) _ _ _ (ready .1 .sized) (told r e (ready .1)) (c .node .given .1)
+
 run-requires : tie.Need-run-requires
 run-requires c κs =
     let node = c .before .before .before in
     let r = node .before .before in
     let ready = begun r .pre in
-    let e = ready .0 in
-    (read-below e (bytes r) (counts r) _ _ _ (ready .1 .sized) (told r e (ready .1)) (node .node .given .1), (e, planned r e (ready .1)))
+    (came-below node, (ready .0, planned r (ready .0) (ready .1)))
 
 verdict-requires : tie.Need-verdict-requires
 verdict-requires c κs =
     let ran = c .before .before in
-    let r = ran .before .before .before .before .before .before in
+    let node = ran .before .before .before .before in
+    let r = node .before .before in
     let ready = begun r .pre in
-    (ran .run .ensures .0, (ran .run .ensures .1 .0, (ready .0, planned r (ready .0) (ready .1))))
+    (omega (arith, ran .run .ensures .0, came-below node), (ran .run .ensures .1 .0, (ready .0, planned r (ready .0) (ready .1))))
 
 encode-requires : tie.Need-encode-requires
 encode-requires c κs =

@@ -1,4 +1,4 @@
--- `follow::prompt::lit_after` meets its contract. The invariant: the set has the codes of the event nodes passed that are near.
+-- `follow::light::lit_after` meets its contract. The invariant: the set has the codes of the event nodes passed that are near.
 -- Assumes nothing.
 use Prim.Native.Nat.{_≤_, _-_}
 use native.Mathlib.Omega.{arith}
@@ -7,8 +7,8 @@ use Prim.Native.Nat.{ℕ}
 use borrow.Author.Needs.{needs}
 use Rattle.follow.specs.Near.{CodesNear}
 use Rattle.follow.proofs.Lighting.{codes-none, codes-more, lit-after}
-use Rattle.follow.proofs.prompt.lit_after.Statement.{statement}
-use Rattle.follow.proofs.prompt.lit_after.Tie as tie
+use Rattle.follow.proofs.light.lit_after.Statement.{statement}
+use Rattle.follow.proofs.light.lit_after.Tie as tie
 
 abbrev Inv-loop : tie.InvT-loop
 Inv-loop nodes plan n p lit₀ q₀ lit q = (q ≤ n) × CodesNear nodes plan n p q lit

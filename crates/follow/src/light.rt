@@ -1,14 +1,22 @@
 // The codes to light: at the start first of the root, and otherwise the codes of the event nodes that can directly follow the node
 // reached in the loosened procedure.
 ghost use mathlib.Core.Path.{_≡_};
-ghost use Prim.Native.Nat.{suc, _-_, _≤_, _<_};
+ghost use mathlib.Core.List.{List};
+ghost use Prim.Native.Nat.{ℕ, suc, _-_, _≤_, _<_};
 ghost use Rattle.meaning.specs.Expr.{Expr, size};
 ghost use Rattle.meaning.specs.Node.{Stands};
+ghost use Rattle.meaning.specs.File.{Admitted};
+ghost use Rattle.meaning.specs.Promises.{Prompts};
 ghost use Rattle.procedure.specs.Entry.{held, kindOf};
 ghost use Rattle.plan.specs.Plan.{Plans};
 ghost use Rattle.follow.specs.Near.{Kept, CodeNear, StartLit, LitAt};
+ghost use Rattle.follow.specs.Batch.{Ready};
 use crate::near;
+use crate::valid;
 use judge::sets;
+use meaning::PromptAnswer;
+use meaning::Refusal;
+use plan::fill;
 use procedure::entry;
 
 // The code of node q, where that is an event that can directly follow event node p; and else no code.
@@ -58,7 +66,7 @@ fn lit_at_start(nodes: &[u64; 512], n: usize) -> u64
 }
 
 // At a state's node: 0 at the start, or else 1 + the event node reached.
-pub fn lit(nodes: &[u64; 512], plan: &[u64; 512], n: usize, node: usize) -> u64
+fn lit(nodes: &[u64; 512], plan: &[u64; 512], n: usize, node: usize) -> u64
     requires { ⌜ node ≤ n ⌝ }
     requires { ⌜ (1 ≤ node → kindOf (held (now nodes) (node - 1)) ≡ 1) ⌝ }
     requires { ⌜ Kept (now nodes) n ⌝ }
@@ -69,4 +77,19 @@ pub fn lit(nodes: &[u64; 512], plan: &[u64; 512], n: usize, node: usize) -> u64
         return lit_at_start(nodes, n);
     }
     lit_after(nodes, plan, n, node - 1)
+}
+
+// The answer for the n nodes of an admitted file.
+pub fn light(nodes: &[u64; 512], n: usize, bytes: &[u8]) -> PromptAnswer
+    requires { ⌜ ((e : Expr) × Ready (now nodes) n e) ⌝ }
+    requires { ⌜ Kept (now nodes) n ⌝ }
+    ensures { λ r. ⌜ ((f : List ℕ) (e : Expr) → Admitted f e → Ready (now (nodes .entry)) n e → Prompts f (now (bytes .entry)) r) ⌝ }
+{
+    let mut table = [0u64; 512];
+    fill::fill_plan(nodes, &mut table, n);
+    let mut counts = [0u16; 32];
+    match valid::read_state(nodes, &table, n, bytes, &mut counts) {
+        valid::Read::Unreached => PromptAnswer::Refused(Refusal::Unreached),
+        valid::Read::Reached(node) => PromptAnswer::Lit(lit(nodes, &table, n, node)),
+    }
 }

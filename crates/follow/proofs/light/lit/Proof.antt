@@ -1,9 +1,9 @@
--- `follow::prompt::lit` meets its contract. Assumes nothing.
+-- `follow::light::lit` meets its contract. Assumes nothing.
 use native.Mathlib.Omega.{arith}
 use borrow.Author.Needs.{needs}
 use Rattle.follow.proofs.Lighting.{lit-as, lit-at-start}
-use Rattle.follow.proofs.prompt.lit.Statement.{statement}
-use Rattle.follow.proofs.prompt.lit.Tie as tie
+use Rattle.follow.proofs.light.lit.Statement.{statement}
+use Rattle.follow.proofs.light.lit.Tie as tie
 
 lit-at-start-requires : tie.Need-lit-at-start-requires
 lit-at-start-requires c κs = search needs

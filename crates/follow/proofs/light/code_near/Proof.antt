@@ -1,12 +1,12 @@
--- `follow::prompt::code_near` meets its contract. Assumes nothing.
+-- `follow::light::code_near` meets its contract. Assumes nothing.
 use mathlib.Core.Path.{sym, _∙_}
 use native.Mathlib.Omega.{arith}
 use borrow.Author.Needs.{needs}
 use Rattle.procedure.specs.Entry.{held}
 use Rattle.procedure.proofs.Nodes.{event-kept}
 use Rattle.follow.proofs.Lighting.{code-near, code-not-near, code-of-none}
-use Rattle.follow.proofs.prompt.code_near.Statement.{statement}
-use Rattle.follow.proofs.prompt.code_near.Tie as tie
+use Rattle.follow.proofs.light.code_near.Statement.{statement}
+use Rattle.follow.proofs.light.code_near.Tie as tie
 
 mul-node : tie.Need-mul-node
 mul-node c = search needs

@@ -1,8 +1,8 @@
--- `follow::prompt::lit_at_start` meets its contract. Assumes nothing.
+-- `follow::light::lit_at_start` meets its contract. Assumes nothing.
 use native.Mathlib.Omega.{arith}
 use Rattle.follow.proofs.Lighting.{root-ready, first-lit}
-use Rattle.follow.proofs.prompt.lit_at_start.Statement.{statement}
-use Rattle.follow.proofs.prompt.lit_at_start.Tie as tie
+use Rattle.follow.proofs.light.lit_at_start.Statement.{statement}
+use Rattle.follow.proofs.light.lit_at_start.Tie as tie
 
 sub-sets-of : tie.Need-sub-sets-of
 sub-sets-of c = root-ready (c .args .nodes .now) (c .args .n) (c .pre .1 .0) (c .pre .1 .1) .0
