@@ -10,4 +10,3 @@ mod Nearby
 mod EventNodes
 mod Lighting
 mod Prompting
-pub mod Continuing

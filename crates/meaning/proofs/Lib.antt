@@ -46,3 +46,4 @@ pub mod Follows
 pub mod EventNodes
 pub mod Pieces
 pub mod Meet
+pub mod Lit
