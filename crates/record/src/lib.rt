@@ -8,7 +8,9 @@ use meaning::CheckAnswer;
 use procedure::Opened;
 use walk::Taken;
 
+mod firsts; // firsts.rt: the codes that begin the words of each part
 mod items; // items.rt: the items of a record, by their places
+mod lay; // lay.rt: what a part lays of a run
 mod nulls; // nulls.rt: which parts have the empty word
 mod walk; // walk.rt: what a part takes of the items
 
