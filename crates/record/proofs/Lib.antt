@@ -5,6 +5,8 @@ mod Bounds
 mod Bytes
 mod Empties
 mod Heads
+mod Laid
+mod Reaches
 mod Standing
 mod Stays
 mod Takes
