@@ -6,6 +6,8 @@ mod Bytes
 mod Empties
 mod Heads
 mod Laid
+mod LaidBlocks
+mod Lays
 mod Reaches
 mod Standing
 mod Stays
