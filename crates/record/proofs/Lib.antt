@@ -7,6 +7,8 @@ mod Empties
 mod Heads
 mod Laid
 mod LaidBlocks
+mod LaidStays
+mod Laying
 mod Lays
 mod Reaches
 mod Standing
