@@ -1,10 +1,12 @@
 -- The laws that belong to no one function.
 mod Answers
+mod Beginnings
 mod Blocks
 mod Bounds
 mod Bytes
 mod Empties
 mod Heads
+mod Puts
 mod Standing
 mod Stays
 mod Takes
