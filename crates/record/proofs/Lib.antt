@@ -6,8 +6,11 @@ mod Bounds
 mod Bytes
 mod Empties
 mod Heads
+mod Laid
 mod Puts
+mod Reaches
 mod Standing
 mod Stays
 mod Takes
 mod Walks
+mod Writing

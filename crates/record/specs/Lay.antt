@@ -1,20 +1,21 @@
 -- What a part lays of a run: the items of its reading, one after the other. A model of our code, and no promise.
 use mathlib.Core.Path.{_≡_}
-use mathlib.Core.Bool.{cond}
+use mathlib.Core.Bool.{Bool, cond}
 use mathlib.Core.Logic.{_↔_}
 use mathlib.Core.List.{List, [], _∷_, _++_, map}
-use Prim.Native.Nat.{ℕ, _+_, _*_, _/_, _%_, _≤_, _<_}
+use Prim.Native.Nat.{ℕ, suc, _+_, _-_, _*_, _/_, _%_, _≤_, _<_}
 use lib.Dec.{ltb}
 use lib.ListN.{length, drop, getD, set}
 use Rattle.meaning.specs.Codes.{Has}
 use Rattle.meaning.specs.Expr.{Expr, root}
-use Rattle.meaning.specs.Node.{Node, Stands}
+use Rattle.meaning.specs.Node.{InOrder, Node, Stands}
 use Rattle.meaning.specs.Reading.{Item, Reading, codes}
 use Rattle.meaning.specs.Record.{itemNumber}
 use Rattle.meaning.specs.Sets.{First, After}
 use Rattle.meaning.proofs.Unique.{Free}
 use Rattle.record.specs.declared.lay.Laid.{Laid}
 use Rattle.record.specs.declared.lay.Laid.the-variants.{To, Stuck}
+use Rattle.record.specs.Walk.{Nulls}
 
 -- the set has the codes that are in first of the part of node i
 unfoldable pub FirstAt : (ℕ → Node) → ℕ → ℕ → Type 0
@@ -69,3 +70,30 @@ Told run space to nowhere Stuck after = Unit {0}
 unfoldable pub LaysAt : (ℕ → Node) → List ℕ → List ℕ → ℕ → ℕ → ℕ → Laid → List ℕ → Type 0
 LaysAt g run space i at to r after =
     (s : ℕ) (e : Expr) → Stands g s e → root s e ≡ i → Free e → (q : Rest) × Lays (Reading s e) e (drop at run) q × Told run space to q r after
+
+-- the walk goes to these places where P holds, and is stuck where it does not
+abbrev pub Ends : Type 0 → ℕ → ℕ → Laid → Type 0
+Ends P at to (To a t) = P × (a ≡ at) × (t ≡ to)
+Ends P at to Stuck = ¬ P
+
+-- the part of node i, from these places on, lays no item from this place on: a reading has at most 2 i + 1 items for each event
+unfoldable pub reach : List ℕ → ℕ → ℕ → ℕ → ℕ
+reach run i at to = to + (2 * i + 1) * (length run - at)
+
+-- the walk does not go back, nor past the end, nor further than the part reaches
+abbrev pub Onward : List ℕ → ℕ → ℕ → ℕ → Laid → Type 0
+Onward run i at to (To a t) = (at ≤ a) × (a ≤ length run) × (reach run i a t ≤ reach run i at to)
+Onward run i at to Stuck = Unit {0}
+
+-- a part stands at node i, and all is known that a walk over it needs
+pub record Ready (g : ℕ → Node) (nulls : List Bool) (firsts : List ℕ) (i : ℕ) : Type 0 where
+  pub part : InOrder g i
+  pub small : i < 512
+  pub nulls-known : Nulls g nulls (suc i)
+  pub firsts-known : Firsts g firsts (suc i)
+
+-- the places are such that no number of the walk grows too large
+pub record Room (run : List ℕ) (i at to : ℕ) : Type 0 where
+  pub short : length run ≤ 65536
+  pub inside : at ≤ length run
+  pub fits : reach run i at to ≤ 134217728

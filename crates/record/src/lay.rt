@@ -1,10 +1,9 @@
 // What a part lays of a run: the items of its reading, one after the other. In an admitted procedure the next code says where to go.
+ghost use mathlib.Core.Bool.{So};
 ghost use mathlib.Core.Path.{_≡_};
-ghost use Prim.Native.Nat.{_+_, _*_, _-_, _≤_, _<_};
-ghost use lib.ListN.{length};
 ghost use Rattle.procedure.specs.Entry.{held, kindOf};
 ghost use Rattle.procedure.specs.Tests.{Decides};
-ghost use Rattle.record.specs.Lay.{LaysAt, NextIn};
+ghost use Rattle.record.specs.Lay.{Ends, LaysAt, NextIn, Onward, Ready, Room};
 use crate::items;
 use crate::walk;
 use procedure::entry;
@@ -17,18 +16,26 @@ pub enum Laid {
     Stuck,
 }
 
+fn wide(x: u8) -> u32
+    ensures { λ r. ⌜ r ≡ x ⌝ }
+{
+    x as u32
+}
+
 // Whether the next code of the run is in the set.
 fn next_in(set: u64, run: &[u8], at: usize) -> bool
     ensures { λ r. ⌜ Decides (NextIn set (now (run .entry)) at) r ⌝ }
 {
     if at < run.len() {
-        return codes::has(set, run[at] as u32);
+        return codes::has(set, wide(run[at]));
     }
     false
 }
 
 // Up to these places, where the walk may end there.
-fn to_if(may: bool, event: usize, item: usize) -> Laid {
+fn to_if(may: bool, event: usize, item: usize) -> Laid
+    ensures { λ r. ⌜ Ends (So may) event item r ⌝ }
+{
     if may {
         return Laid::To(event, item);
     }
@@ -47,6 +54,9 @@ pub fn lay(
     event: usize,
     item: usize,
 ) -> Laid
+    requires { ⌜ Ready (held (now nodes)) (now nulls) (now firsts) node ⌝ }
+    requires { ⌜ Room (now run) node event item ⌝ }
+    ensures { λ r. ⌜ Onward (now (run .entry)) node event item r ⌝ }
     ensures { λ r. ⌜ LaysAt (held (now (nodes .entry))) (now (run .entry)) (now (space .entry)) node event item r (now (space .exit)) ⌝ }
 {
     let mut i = node;
@@ -94,6 +104,10 @@ fn lay_blocks(
     event: usize,
     item: usize,
 ) -> Laid
+    requires { ⌜ Ready (held (now nodes)) (now nulls) (now firsts) i ⌝ }
+    requires { ⌜ Room (now run) i event item ⌝ }
+    requires { ⌜ kindOf (held (now nodes) i) ≡ 4 ⌝ }
+    ensures { λ r. ⌜ Onward (now (run .entry)) i event item r ⌝ }
     ensures { λ r. ⌜ LaysAt (held (now (nodes .entry))) (now (run .entry)) (now (space .entry)) i event item r (now (space .exit)) ⌝ }
 {
     let mut at = event;
