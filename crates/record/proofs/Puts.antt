@@ -4,7 +4,6 @@ use mathlib.Core.Path.{_≡_, refl, sym, ap, _∙_}
 use mathlib.Core.Bool.{Bool, true, false, cond}
 use mathlib.Core.List.{List, [], _∷_, _++_, append-assoc}
 use Prim.Native.Nat.{ℕ, zero, suc, _+_, _*_, _/_, _%_, _≤_, _<_}
-use native.Mathlib.Decide.{decLt}
 use native.Mathlib.Omega.{arith}
 use borrow.Author.Tests.{lt-ltb, le-ltb}
 use lib.Dec.{ltb}
@@ -35,27 +34,6 @@ put-fits space at n h = cond-yes (ltb (2 * at + 1) (length space)) (twoAt space 
 pub put-past : (space : List ℕ) (at n : ℕ) → length space ≤ 2 * at + 1 → space ≡ putAt space at n
 unfolding putAt
 put-past space at n h = cond-no (ltb (2 * at + 1) (length space)) (twoAt space at n) space (le-ltb (2 * at + 1) (length space) h)
-
--- ---- the length stays
-
-put-keeps : (space : List ℕ) (at n : ℕ) → length (putAt space at n) ≡ length space
-put-keeps space at n = go (decLt (2 * at + 1) (length space))
-  where
-    go : Dec (2 * at + 1 < length space) → length (putAt space at n) ≡ length space
-    go (yes h) = ap length (sym (put-fits space at n h)) ∙ length-set (set space (2 * at) (n % 256)) (2 * at + 1) (n / 256 % 256) ∙ length-set space (2 * at) (n % 256)
-    go (no h) = ap length (sym (put-past space at n (omega arith)))
-
-pub puts-keeps : (space : List ℕ) (at : ℕ) (w : List ℕ) → length (puts space at w) ≡ length space
-puts-keeps space at [] = refl
-puts-keeps space at (n ∷ w) = puts-keeps (putAt space at n) (at + 1) w ∙ put-keeps space at n
-
--- ---- no item fits
-
-pub puts-none : (space : List ℕ) → length space < 2 → (at : ℕ) (w : List ℕ) → puts space at w ≡ space
-puts-none space h at [] = refl
-puts-none space h at (n ∷ w) = ap (λ (s : List ℕ). puts s (at + 1) w) (sym (put-past space at n (omega arith))) ∙ puts-none space h (at + 1) w
-
--- ---- all fit
 
 set-behind : (u : List ℕ) (a x : ℕ) (v : List ℕ) (k : ℕ) → length u ≡ k → set (u ++ (a ∷ v)) k x ≡ u ++ (x ∷ v)
 set-behind [] a x v zero h = refl

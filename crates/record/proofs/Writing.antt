@@ -1,15 +1,14 @@
 -- From an admitted file and what is laid of a run to the answer of Write. Assumes nothing.
-use mathlib.Core.Path.{_≡_, refl, sym, ap, subst, _∙_}
+use mathlib.Core.Path.{_≡_, sym, ap, subst, _∙_}
 use mathlib.Core.Bool.{Bool}
-use mathlib.Core.List.{List, [], _∷_, _++_, map}
-use Prim.Native.Nat.{ℕ, suc, _+_, _-_, _*_, _≤_, _<_}
+use mathlib.Core.List.{List, _++_, map}
+use Prim.Native.Nat.{ℕ, _+_, _-_, _*_, _≤_, _<_}
 use native.Mathlib.Decide.{ℕ-discrete}
 use native.Mathlib.Nat.{mul-le-mul}
 use native.Mathlib.Omega.{arith}
 use lib.ListN.{length, drop, length-map}
 use Rattle.meaning.specs.declared.Refusal.{Refusal}
 use Rattle.meaning.specs.declared.Refusal.the-variants.{Length, Incomplete, Room as no-space}
-use Rattle.meaning.specs.declared.WriteAnswer.{WriteAnswer}
 use Rattle.meaning.specs.declared.WriteAnswer.the-variants as write
 use Rattle.meaning.specs.Expr.{Expr, Bounded}
 use Rattle.meaning.specs.Node.{InTable, Stands}
@@ -97,9 +96,11 @@ module _ {f nodes : List ℕ} {n : ℕ} (o : Entered f nodes n) where
         not-laid (held nodes) run none after (n - 1) expr listed (root-at (o .filled)) free r laid on missed (y .0) (y .1) (y .2))
 
     -- the measure is taken: the run is laid as t items
-    module _ (none after : List ℕ) (a t : ℕ) (laid : LaysAt (held nodes) run none (n - 1) 0 0 (To a t) after) (all : a ≡ length run) where
+    module _ (none after : List ℕ) (q : Laid) (a t : ℕ) (first : LaysAt (held nodes) run none (n - 1) 0 0 q after) (told : q ≡ To a t) (all : a ≡ length run) where
       reading : (x : List Item) × Reading 0 expr x × (codes x ≡ run) × (t ≡ length x) × (after ≡ puts none 0 (map itemNumber x))
-      reading = laid-whole (held nodes) run none after (n - 1) expr listed (root-at (o .filled)) free a t laid all
+      reading =
+          laid-whole (held nodes) run none after (n - 1) expr listed (root-at (o .filled)) free a t
+          (subst (λ (r : Laid). LaysAt (held nodes) run none (n - 1) 0 0 r after) told first) all
 
       pub writes-no-room : (space : List ℕ) → length space < 2 * t → Writes f run space (write.Refused no-space) space
       writes-no-room space l =

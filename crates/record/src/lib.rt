@@ -35,7 +35,8 @@ fn write_run(nodes: &[u64; 512], n: usize, run: &[u8], space: &mut [u8]) -> Writ
     let nulls = nulls::nulls_of(nodes, n);
     let firsts = firsts::firsts_of(nodes, &nulls, n);
     let mut none = [0u8; 1];
-    let Laid::To(events, items) = lay::lay(nodes, &nulls, &firsts, run, &mut none, n - 1, 0, 0) else {
+    let Laid::To(events, items) = lay::lay(nodes, &nulls, &firsts, run, &mut none, n - 1, 0, 0)
+    else {
         return WriteAnswer::Refused(Refusal::Incomplete);
     };
     if events != run.len() {
