@@ -1,13 +1,13 @@
 -- First of a part: of each kind of node from its children, and the list of them, filled one by one. Assumes nothing.
-use mathlib.Core.Path.{_≡_, refl, sym, ap, subst, _∙_}
+use mathlib.Core.Path.{_≡_, sym, ap, subst, _∙_}
 use mathlib.Core.Bool.{Bool, true, false, false≢true, _||_}
 use mathlib.Core.List.{List}
-use mathlib.Core.Logic.{_↔_, _⊎_, inl, inr, ⊎-elim, Iff·trans}
+use mathlib.Core.Logic.{_↔_, _⊎_, inl, ⊎-elim, ⊎-map, Iff·trans}
 use Prim.Native.Nat.{ℕ, _+_, _-_, _≤_, _<_}
 use native.Mathlib.Decide.{ℕ-discrete}
 use native.Mathlib.Omega.{arith}
 use borrow.Author.Count.{below-more}
-use borrow.Author.Tests.{eqb-false, ne-eqb}
+use borrow.Author.Tests.{eq-eqb, ne-eqb}
 use lib.Dec.{eqb}
 use lib.ListN.{length, getD, set}
 use lib.Seq.{getD-set-same, getD-set-other}
@@ -21,20 +21,8 @@ use Rattle.record.specs.Lay.{FirstAt, Firsts}
 use Rattle.record.specs.Walk.{NullAt, Nulls}
 use Rattle.record.proofs.Standing.{Pair, kindNumber, standing-kind, at-choice, at-sequence, at-repeat, at-leaf}
 
-neither-one : (a b : Bool) → (a || b) ≡ false → a ≡ false
-neither-one true b h = h
-neither-one false b h = refl
-
-neither-other : (a b : Bool) → (a || b) ≡ false → b ≡ false
-neither-other true b h = absurd (false≢true (sym h))
-neither-other false b h = h
-
-or-other : (a b : Bool) → a ≡ false → (a || b) ≡ true → b ≡ true
-or-other true b h e = absurd (false≢true (sym h))
-or-other false b h e = e
-
 iff-or : {A B C D : Type 0} → A ↔ C → B ↔ D → (A ⊎ B) ↔ (C ⊎ D)
-iff-or p q = (⊎-elim (λ a. inl (p .0 a)) (λ b. inr (q .0 b)), ⊎-elim (λ c. inl (p .1 c)) (λ d. inr (q .1 d)))
+iff-or p q = (⊎-map (p .0) (q .0), ⊎-map (p .1) (q .1))
 
 module _ (g : ℕ → Node) (i kind : ℕ) (told : kind ≡ kindOf (g i)) where
   pub first-empty : (r : ℕ) → kind ≡ 0 → ((c : ℕ) → ¬ Has r c) → FirstAt g i r
@@ -78,8 +66,9 @@ module _ (g : ℕ → Node) (i kind : ℕ) (told : kind ≡ kindOf (g i)) where
       pub first-left : (eqb kind 2 || getD nulls left false) ≡ false → FirstAt g i (getD firsts left 0)
       unfolding FirstAt
       first-left neither = λ s.
-          let no-choice = eqb-false kind 2 (neither-one (eqb kind 2) (getD nulls left false) neither) in
-          let no = neither-other (eqb kind 2) (getD nulls left false) neither in
+          let null = getD nulls left false in
+          let no-choice : ¬ (kind ≡ 2) = λ k. false≢true (sym neither ∙ ap (λ (t : Bool). t || null) (eq-eqb kind 2 k)) in
+          let no : null ≡ false = sym (ap (λ (t : Bool). t || null) (ne-eqb kind 2 no-choice)) ∙ neither in
           at-sequence g s i kind told (λ e. (c : ℕ) → Has (getD firsts left 0) c ↔ First e c) left f two no-choice no-repeat
           (λ a b p c. let q = of-left s a b p c in
           (λ h. inl (q .0 h), ⊎-elim (q .1) (λ x. absurd (false≢true (sym no ∙ passed s a b p ∙ x .0)))))
@@ -103,7 +92,7 @@ module _ (g : ℕ → Node) (i kind : ℕ) (told : kind ≡ kindOf (g i)) where
           where
             go : Dec (kind ≡ 2) → FirstAt g i r
             go (yes k) = first-choice k
-            go (no k) = first-both k (or-other (eqb kind 2) (getD nulls left false) (ne-eqb kind 2 k) either)
+            go (no k) = first-both k (sym (ap (λ (t : Bool). t || getD nulls left false) (ne-eqb kind 2 k)) ∙ either)
 
 -- ---- the list of them
 

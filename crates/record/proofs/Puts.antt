@@ -1,12 +1,11 @@
 -- Items put into a space, one after the other: where they fit they stand there as bytes, and the rest of the space is as it came.
 -- Assumes nothing.
 use mathlib.Core.Path.{_≡_, refl, sym, ap, _∙_}
-use mathlib.Core.Bool.{Bool, true, false, cond}
+use mathlib.Core.Bool.{Bool, cond}
 use mathlib.Core.List.{List, [], _∷_, _++_, append-assoc}
 use Prim.Native.Nat.{ℕ, zero, suc, _+_, _*_, _/_, _%_, _≤_, _<_}
 use native.Mathlib.Omega.{arith}
 use borrow.Author.Tests.{lt-ltb, le-ltb}
-use lib.Dec.{ltb}
 use lib.ListN.{length, drop, set, length-append, length-set}
 use Rattle.meaning.specs.Bytes.{inTwos}
 use Rattle.record.specs.Lay.{putAt, puts}
@@ -19,21 +18,13 @@ twoAt space at n = set (set space (2 * at) (n % 256)) (2 * at + 1) (n / 256 % 25
 pub fits-still : (space : List ℕ) (at x : ℕ) → 2 * at + 1 < length space → 2 * at + 1 < length (set space (2 * at) x)
 fits-still space at x h = omega (arith, length-set space (2 * at) x)
 
-cond-yes : (b : Bool) (x y : List ℕ) → b ≡ true → x ≡ cond b x y
-cond-yes true x y h = refl
-cond-yes false x y h = let z : _≡_ {A = ℕ} 0 1 = cc in absurd (omega arith)
-
-cond-no : (b : Bool) (x y : List ℕ) → b ≡ false → y ≡ cond b x y
-cond-no false x y h = refl
-cond-no true x y h = let z : _≡_ {A = ℕ} 0 1 = cc in absurd (omega arith)
-
 pub put-fits : (space : List ℕ) (at n : ℕ) → 2 * at + 1 < length space → twoAt space at n ≡ putAt space at n
 unfolding putAt
-put-fits space at n h = cond-yes (ltb (2 * at + 1) (length space)) (twoAt space at n) space (lt-ltb (2 * at + 1) (length space) h)
+put-fits space at n h = sym (ap (λ (b : Bool). cond b (twoAt space at n) space) (lt-ltb (2 * at + 1) (length space) h))
 
 pub put-past : (space : List ℕ) (at n : ℕ) → length space ≤ 2 * at + 1 → space ≡ putAt space at n
 unfolding putAt
-put-past space at n h = cond-no (ltb (2 * at + 1) (length space)) (twoAt space at n) space (le-ltb (2 * at + 1) (length space) h)
+put-past space at n h = sym (ap (λ (b : Bool). cond b (twoAt space at n) space) (le-ltb (2 * at + 1) (length space) h))
 
 set-behind : (u : List ℕ) (a x : ℕ) (v : List ℕ) (k : ℕ) → length u ≡ k → set (u ++ (a ∷ v)) k x ≡ u ++ (x ∷ v)
 set-behind [] a x v zero h = refl
