@@ -1,5 +1,6 @@
 -- The laws that belong to no one function.
 mod Answers
+mod Beginnings
 mod Blocks
 mod Bounds
 mod Bytes
@@ -10,8 +11,10 @@ mod LaidBlocks
 mod LaidStays
 mod Laying
 mod Lays
+mod Puts
 mod Reaches
 mod Standing
 mod Stays
 mod Takes
 mod Walks
+mod Writing

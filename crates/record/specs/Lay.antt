@@ -31,7 +31,7 @@ NextIn codes run at = (at < length run) × Has codes (getD run at 0)
 
 -- the space after an item's number is put at a place; where its two bytes do not fit, nothing is put
 unfoldable pub putAt : List ℕ → ℕ → ℕ → List ℕ
-putAt space at n = cond (ltb (2 * at + 1) (length space)) (set (set space (2 * at) (n % 256)) (2 * at + 1) (n / 256)) space
+putAt space at n = cond (ltb (2 * at + 1) (length space)) (set (set space (2 * at) (n % 256)) (2 * at + 1) (n / 256 % 256)) space
 
 -- and after numbers are put one after the other from a place on
 abbrev pub puts : List ℕ → ℕ → List ℕ → List ℕ

@@ -1,10 +1,9 @@
 // The codes that begin the words of each part, worked out once from the lowest node up.
 ghost use mathlib.Core.Path.{_≡_};
-ghost use Prim.Native.Nat.{_≤_, _<_};
-ghost use Rattle.meaning.specs.Node.{InOrder};
+ghost use Prim.Native.Nat.{ℕ, _≤_, _<_};
+ghost use Rattle.meaning.specs.Node.{InOrder, InTable};
 ghost use Rattle.procedure.specs.Entry.{held};
 ghost use Rattle.procedure.specs.Parts.{OrderedBelow};
-ghost use Rattle.judge.specs.Sets.{TableUpTo};
 ghost use Rattle.record.specs.Lay.{FirstAt, Firsts};
 ghost use Rattle.record.specs.Walk.{Nulls};
 use procedure::entry;
@@ -13,7 +12,7 @@ use procedure::entry;
 fn first_at(nodes: &[u64; 512], nulls: &[bool; 512], firsts: &[u64; 512], i: usize) -> u64
     requires { ⌜ i < 512 ⌝ }
     requires { ⌜ InOrder (held (now nodes)) i ⌝ }
-    requires { ⌜ TableUpTo (held (now nodes)) i ⌝ }
+    requires { ⌜ InTable (held (now nodes) i) ⌝ }
     requires { ⌜ Nulls (held (now nodes)) (now nulls) i ⌝ }
     requires { ⌜ Firsts (held (now nodes)) (now firsts) i ⌝ }
     ensures { λ r. ⌜ FirstAt (held (now (nodes .entry))) i r ⌝ }
@@ -31,17 +30,18 @@ fn first_at(nodes: &[u64; 512], nulls: &[bool; 512], firsts: &[u64; 512], i: usi
         return last;
     }
     let left = entry::left_of(entry);
-    if (kind == entry::SEQUENCE) & !nulls[left] {
-        return firsts[left];
+    // The right may begin a choice, and a sequence whose left has the empty word.
+    if (kind == entry::CHOICE) | nulls[left] {
+        return codes::union(firsts[left], last);
     }
-    codes::union(firsts[left], last)
+    firsts[left]
 }
 
 // First of the parts of the first n nodes.
 pub fn firsts_of(nodes: &[u64; 512], nulls: &[bool; 512], n: usize) -> [u64; 512]
     requires { ⌜ n ≤ 512 ⌝ }
     requires { ⌜ OrderedBelow (held (now nodes)) n ⌝ }
-    requires { ⌜ TableUpTo (held (now nodes)) n ⌝ }
+    requires { ⌜ ((j : ℕ) → j < n → InTable (held (now nodes) j)) ⌝ }
     requires { ⌜ Nulls (held (now nodes)) (now nulls) n ⌝ }
     ensures { λ r. ⌜ Firsts (held (now (nodes .entry))) r n ⌝ }
 {

@@ -78,6 +78,6 @@ pub fn put(space: &mut [u8], at: usize, item: usize)
         let low = 2 * at;
         let high = low + 1;
         space[low] = (item % 256) as u8;
-        space[high] = (item / 256) as u8;
+        space[high] = (item / 256 % 256) as u8;
     }
 }
