@@ -1,10 +1,19 @@
 -- The laws that belong to no one function.
 mod Answers
+mod Beginnings
 mod Blocks
 mod Bounds
 mod Bytes
 mod Empties
 mod Heads
+mod Laid
+mod LaidBlocks
+mod LaidStays
+mod Laying
+mod Lays
+mod Puts
+mod Reaches
 mod Stays
 mod Takes
 mod Walks
+mod Writing

@@ -3,6 +3,7 @@ ghost use mathlib.Core.Path.{_≡_};
 ghost use Prim.Native.Nat.{_<_};
 ghost use lib.ListN.{getD};
 ghost use Rattle.procedure.specs.Tests.{Decides};
+ghost use Rattle.record.specs.Lay.{putAt};
 ghost use Rattle.record.specs.Walk.{Inside, itemsIn, noItem};
 
 // An item is its node, plus this for each mark.
@@ -67,4 +68,16 @@ pub fn inside(item: usize, s: usize, i: usize) -> bool
         return false;
     }
     true
+}
+
+// Puts an item at a place of the space, where its two bytes fit.
+pub fn put(space: &mut [u8], at: usize, item: usize)
+    ensures { λ _. ⌜ now (space .exit) ≡ putAt (now (space .entry)) at item ⌝ }
+{
+    if at < space.len() / 2 {
+        let low = 2 * at;
+        let high = low + 1;
+        space[low] = (item % 256) as u8;
+        space[high] = (item / 256 % 256) as u8;
+    }
 }

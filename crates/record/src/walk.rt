@@ -36,21 +36,25 @@ fn wide(x: u16) -> usize
     x as usize
 }
 
+// Whether a repeat may have so many blocks, for its upper bound.
+pub fn within(entry: u64, k: usize) -> bool
+    ensures { λ r. ⌜ Decides (Within k (bound (upperOf (unpacked entry)))) r ⌝ }
+{
+    let upper = entry::upper_of(entry);
+    if upper == entry::NO_BOUND {
+        return true;
+    }
+    k <= wide(upper)
+}
+
 // Whether a repeat may have k blocks. `null` says whether its body has the empty word.
-fn may_stop(entry: u64, null: bool, k: usize) -> bool
+pub fn may_stop(entry: u64, null: bool, k: usize) -> bool
     ensures { λ r. ⌜ Decides ((low null (lowerOf (unpacked entry)) ≤ k) × Within k (bound (upperOf (unpacked entry)))) r ⌝ }
 {
     if k < wide(entry::normal_lower(null, entry::lower_of(entry))) {
         return false;
     }
-    let upper = entry::upper_of(entry);
-    if upper == entry::NO_BOUND {
-        return true;
-    }
-    if wide(upper) < k {
-        return false;
-    }
-    true
+    within(entry, k)
 }
 
 // What the part of the nodes `start` to `node` takes from `place` on. The loop narrows the part; only the left of a sequence and the

@@ -4,7 +4,7 @@ use native.Mathlib.Omega.{arith}
 use borrow.Author.Needs.{needs}
 use Rattle.meaning.specs.Normal.{low}
 use Rattle.procedure.specs.Entry.{lowerOf, unpacked}
-use Rattle.record.proofs.Bounds.{within-none, within-number, past-number}
+use Rattle.record.proofs.Bounds.{decides-both}
 use Rattle.record.proofs.walk.may_stop.Statement.{statement}
 use Rattle.record.proofs.walk.may_stop.Tie as tie
 
@@ -24,26 +24,11 @@ wide-requires c κs = search needs
 returns : tie.Need-returns
 returns c = λ p. omega (arith, p .0, lower (c .before))
 
-upper-of-requires : tie.Need-upper-of-requires
-upper-of-requires c κs = search needs
+within-requires : tie.Need-within-requires
+within-requires c κs = search needs
 
 returns-2 : tie.Need-returns-2
-returns-2 c =
-    let past = c .before .before in
-    (omega (arith, lower (past .before)), within-none _ _ (c .before .upper-of .result) (c .before .upper-of .ensures) (c .if2 .taken))
-
-wide-requires-2 : tie.Need-wide-requires-2
-wide-requires-2 c κs = search needs
-
-returns-3 : tie.Need-returns-3
-returns-3 c =
-    let up = c .before .before .before in
-    λ p. past-number _ _ (up .upper-of .result) (up .upper-of .ensures) (c .before .before .if2 .left) (omega (arith, c .before .wide2 .ensures)) (p .1)
-
-returns-4 : tie.Need-returns-4
-returns-4 c =
-    let up = c .before .before .before in
-    (omega (arith, lower (up .before .before)), within-number _ _ (up .upper-of .result) (up .upper-of .ensures) (c .before .before .if2 .left) (omega (arith, c .before .wide2 .ensures)))
+returns-2 c = decides-both _ _ (c .within .result) (omega (arith, lower (c .before .before))) (c .within .ensures)
 
 pub may-stop-spec : {M : Type 1} → statement M
 may-stop-spec =
@@ -53,8 +38,5 @@ may-stop-spec =
     normal-lower-requires
     wide-requires
     returns
-    upper-of-requires
-    returns-2
-    wide-requires-2
-    returns-3
-    returns-4)
+    within-requires
+    returns-2)
