@@ -1,17 +1,27 @@
--- Numbers in two bytes each: those that fit are determined by their bytes.
+-- Numbers in two bytes each: how many bytes there are, and those numbers that fit are determined by their bytes.
 use mathlib.Core.Path.{_≡_, refl, sym}
 use mathlib.Core.List.{List, [], _∷_, _++_, cons≢nil, head-eq-of-cons-eq, tail-eq-of-cons-eq}
-use Prim.Native.Nat.{ℕ, zero, suc, _<_}
+use Prim.Native.Nat.{ℕ, zero, suc, _*_, _<_}
 use native.Mathlib.Omega.{arith}
-use lib.ListN.{take, replicate}
+use lib.ListN.{length, getD, take, replicate}
 use Rattle.meaning.specs.Bytes.{inTwos}
+
+-- two bytes a number
+pub twos-length : (x : List ℕ) → length (inTwos x) ≡ 2 * length x
+twos-length [] = refl
+twos-length (n ∷ x) = omega (arith, twos-length x)
 
 -- every number fits in two bytes
 abbrev pub Narrow : List ℕ → Type 0
 Narrow [] = Unit {0}
 Narrow (n ∷ ns) = (n < 65536) × Narrow ns
 
--- so in two lists, in the first of a list, and in zeros
+-- so it does where each fits
+pub narrow-each : (x : List ℕ) → ((i : ℕ) → i < length x → getD x i 0 < 65536) → Narrow x
+narrow-each [] f = tt
+narrow-each (n ∷ x) f = (f 0 (omega arith), narrow-each x (λ i l. f (suc i) (omega arith)))
+
+-- in two lists, in the first of a list, and in zeros
 pub narrow-append : (x y : List ℕ) → Narrow x → Narrow y → Narrow (x ++ y)
 narrow-append [] y h g = g
 narrow-append (n ∷ x) y h g = (h .0, narrow-append x y (h .1) g)
