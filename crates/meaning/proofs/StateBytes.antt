@@ -184,7 +184,7 @@ module _ (e : Expr) (small : Small e) (short : size e < 65536) where
       let counts = spotState e k .counts in
       (spot-node k, narrow-take 32 (counts ++ replicate 32 0) (narrow-append counts (replicate 32 0) (spot-narrow k s) (narrow-zeros 32)))
 
-module _ (f : List ℕ) (e : Expr) (h : Holds f e) where
+module _ {f : List ℕ} {e : Expr} (h : Holds f e) where
   -- a file's expression has at most 32 counters, and each fits
   pub few-counters : repeats e ≤ 32
   few-counters = let lists = h .formed .lists in omega (arith, repeats-all (nodeAt f) (count f) e (lists .0) (lists .1), h .few)
@@ -192,8 +192,9 @@ module _ (f : List ℕ) (e : Expr) (h : Holds f e) where
   pub small-counters : Small e
   small-counters = let lists = h .formed .lists in table-small (nodeAt f) (count f) 0 e (h .formed .table) (omega (arith, lists .1)) (lists .0)
 
+module _ (f : List ℕ) (e : Expr) (h : Holds f e) where
   numbers-fit : (k : Spot e) → Safe e k → Narrow (spotState e k .node ∷ padded (spotState e k .counts))
-  numbers-fit = numbers-narrow e small-counters (omega (arith, h .formed .lists .1, h .formed .framed .2 .1))
+  numbers-fit = numbers-narrow e (small-counters h) (omega (arith, h .formed .lists .1, h .formed .framed .2 .1))
 
   -- spots with the same bytes have the same state
   pub same-bytes-same-state : (k j : Spot e) → Safe e k → Safe e j → stateBytes (spotState e k) ≡ stateBytes (spotState e j)
@@ -201,7 +202,7 @@ module _ (f : List ℕ) (e : Expr) (h : Holds f e) where
   same-bytes-same-state k j s t b =
       let all = narrow-unique _ _ (numbers-fit k s) (numbers-fit j t) b in
       let n = head-eq-of-cons-eq all in
-      let few = few-counters in
+      let few = few-counters h in
       let long = spot-long e k in
       let c = padded-unique (spotState e k .counts) (spotState e j .counts) (long ∙ sym (spot-long e j)) (omega arith) (tail-eq-of-cons-eq all) in
       λ i. record { node = n i; counts = c i }
