@@ -1,10 +1,10 @@
 -- The bytes of a state are reached exactly if a run can stand where they say. Assumes nothing.
-use mathlib.Core.Path.{_≡_, sym, ap, ap₂, subst, _∙_}
+use mathlib.Core.Path.{_≡_, refl, sym, ap, ap₂, subst, _∙_}
 use mathlib.Core.Logic.{_↔_, inl, inr, ⊎-elim, Iff·rfl, Iff·trans, Iff·and}
 use mathlib.Core.List.{List, [], _∷_, _++_}
 use Prim.Native.Nat.{ℕ, zero, suc, _+_, _-_, _≤_, _<_}
 use native.Mathlib.Omega.{arith}
-use lib.ListN.{length, getD, replicate, length-append, length-take, length-replicate, getD-replicate, List·getD-eq-default, List·getD-append}
+use lib.ListN.{length, getD, replicate, length-append, length-take, length-replicate, List·getD-eq-default, List·getD-append}
 use lib.Seq.{ext-getD, getD-take, getD-append-add}
 use Rattle.meaning.specs.Expr.{Expr, empty, event, choice, sequence, repeat, size, Bounded}
 use Rattle.meaning.specs.Bytes.{inTwos}
@@ -64,7 +64,9 @@ module _ (counts : List ℕ) where
 -- ---- the counters of a place
 
 zero-at : (m i : ℕ) → _≡_ {A = ℕ} (getD (replicate m 0) i 0) 0
-zero-at m i = ⊎-elim (λ h. getD-replicate m i 0 0 h) (λ h. List·getD-eq-default (replicate m 0) 0 {n = i} (omega (arith, length-replicate {A = ℕ} m 0))) (below-or-from i m)
+zero-at zero i = refl
+zero-at (suc m) zero = refl
+zero-at (suc m) (suc i) = zero-at m i
 
 zeros-at : (e : Expr) (i : ℕ) → getD (zeros e) i 0 ≡ 0
 zeros-at e i = ap (λ (x : List ℕ). getD x i 0) (zeros-all e) ∙ zero-at (repeats e) i
@@ -99,22 +101,14 @@ padded-length : (l : List ℕ) → length (padded l) ≡ 32
 padded-length l = length-take 32 (l ++ replicate 32 0) ∙ omega (arith, length-append l (replicate 32 0), length-replicate {A = ℕ} 32 0)
 
 -- past its end a list has 0 anyway
+zeros-behind : (l : List ℕ) (m i : ℕ) → getD (l ++ replicate m 0) i 0 ≡ getD l i 0
+zeros-behind [] m i = zero-at m i
+zeros-behind (n ∷ l) m zero = refl
+zeros-behind (n ∷ l) m (suc i) = zeros-behind l m i
+
 padded-at : (l : List ℕ) → length l ≤ 32 → (i : ℕ) → getD (padded l) i 0 ≡ getD l i 0
-padded-at l h i = ⊎-elim within past (below-or-from i 32)
+padded-at l h i = ⊎-elim (λ k. getD-take 32 (l ++ replicate 32 0) i 0 k ∙ zeros-behind l 32 i) past (below-or-from i 32)
   where
-    far : length l ≤ i → getD (l ++ replicate 32 0) i 0 ≡ getD l i 0
-    far k =
-        let there : length l + (i - length l) ≡ i = omega arith in
-        ap (λ (j : ℕ). getD (l ++ replicate 32 0) j 0) (sym there)
-        ∙ getD-append-add l (replicate 32 0) (i - length l) 0
-        ∙ zero-at 32 (i - length l)
-        ∙ sym (List·getD-eq-default l 0 {n = i} k)
-
-    within : i < 32 → getD (padded l) i 0 ≡ getD l i 0
-    within k =
-        getD-take 32 (l ++ replicate 32 0) i 0 k
-        ∙ ⊎-elim (λ m. List·getD-append l (replicate 32 0) 0 i m) far (below-or-from i (length l))
-
     past : 32 ≤ i → getD (padded l) i 0 ≡ getD l i 0
     past k = List·getD-eq-default (padded l) 0 {n = i} (omega (arith, padded-length l)) ∙ sym (List·getD-eq-default l 0 {n = i} (omega arith))
 

@@ -108,7 +108,7 @@ place-narrow (repeat b lower upper) p k s =
     let up = stop-within (low (nullable b) lower) (p .1) upper (k .1) .1 in
     narrow-append (placeCounts b (p .0)) _ (place-narrow b (p .0) (k .0) (s .0)) (omega (arith, s .1), tt)
 
--- ---- a file's expression
+-- ---- a part whose nodes keep to the table
 
 -- the most that a repeat of the table counts
 line-small : {k c x lower u : ℕ} (b none : Bool) → InTable (node k c x lower u) → k ≡ 4 → most (low b lower) (cond none endless (upto u)) < 65536
@@ -131,6 +131,8 @@ table-small g n s (repeat b lower upper) table h p =
       table-small g n s b table (omega arith) (p .0),
       subst⁻¹ (λ (x : Upper). most (low (nullable b) lower) x < 65536) (p .1 .2) (line-small (nullable b) (eqb u 65535) line refl),
     )
+
+-- ---- repeats among the nodes
 
 -- one node more
 pub more-below : (g : ℕ → Node) (i m : ℕ) → m ≡ suc i → repeatsBelow g m ≡ repeatsBelow g i + isRepeat (g i)
@@ -184,8 +186,10 @@ module _ (e : Expr) (small : Small e) (short : size e < 65536) where
       let counts = spotState e k .counts in
       (spot-node k, narrow-take 32 (counts ++ replicate 32 0) (narrow-append counts (replicate 32 0) (spot-narrow k s) (narrow-zeros 32)))
 
+-- ---- a file's expression
+
+-- it has at most 32 counters, and each fits
 module _ {f : List ℕ} {e : Expr} (h : Holds f e) where
-  -- a file's expression has at most 32 counters, and each fits
   pub few-counters : repeats e ≤ 32
   few-counters = let lists = h .formed .lists in omega (arith, repeats-all (nodeAt f) (count f) e (lists .0) (lists .1), h .few)
 

@@ -16,12 +16,12 @@ abbrev pub Narrow : List ℕ → Type 0
 Narrow [] = Unit {0}
 Narrow (n ∷ ns) = (n < 65536) × Narrow ns
 
--- so it does where each fits
+-- by place in the list
 pub narrow-each : (x : List ℕ) → ((i : ℕ) → i < length x → getD x i 0 < 65536) → Narrow x
 narrow-each [] f = tt
 narrow-each (n ∷ x) f = (f 0 (omega arith), narrow-each x (λ i l. f (suc i) (omega arith)))
 
--- in two lists, in the first of a list, and in zeros
+-- so in two lists, in the first of a list, and in zeros
 pub narrow-append : (x y : List ℕ) → Narrow x → Narrow y → Narrow (x ++ y)
 narrow-append [] y h g = g
 narrow-append (n ∷ x) y h g = (h .0, narrow-append x y (h .1) g)
