@@ -1,7 +1,7 @@
 -- From an admitted file and the bytes of a state to the answer of Follow. Assumes nothing.
-use mathlib.Core.Path.{_≡_, refl, sym, ap, ap₂, subst, _∙_}
-use mathlib.Core.List.{List, [], _∷_}
-use Prim.Native.Nat.{ℕ, zero, suc, _+_, _*_, _≤_, _<_}
+use mathlib.Core.Path.{_≡_, sym, ap, subst, _∙_}
+use mathlib.Core.List.{List, _∷_}
+use Prim.Native.Nat.{ℕ, _≤_}
 use native.Mathlib.Omega.{arith}
 use lib.ListN.{length}
 use Rattle.meaning.specs.declared.Refusal.{Refusal}
@@ -10,15 +10,16 @@ use Rattle.meaning.specs.declared.Verdict.{Verdict}
 use Rattle.meaning.specs.declared.FollowAnswer.{FollowAnswer}
 use Rattle.meaning.specs.declared.FollowAnswer.the-variants as follow
 use Rattle.meaning.specs.Expr.{Expr, size}
-use Rattle.meaning.specs.Node.{Node, isRepeat, repeatsBelow}
 use Rattle.meaning.specs.Bytes.{inTwos}
-use Rattle.meaning.specs.File.{nodeAt, Admitted}
+use Rattle.meaning.specs.File.{Admitted}
 use Rattle.meaning.specs.State.{stateBytes}
 use Rattle.meaning.specs.Promises.{Follows}
 use Rattle.meaning.proofs.Marks.{node-below}
 use Rattle.meaning.proofs.Files.{holds-bounded}
 use Rattle.meaning.proofs.Spots.{Spot, start, behind, Safe}
 use Rattle.meaning.proofs.Runs.{spotState}
+use Rattle.meaning.proofs.Twos.{twos-length}
+use Rattle.meaning.proofs.StateBytes.{repeats-all, few-counters, small-counters}
 use Rattle.meaning.proofs.Follows.{VerdictAt, going-follows}
 use Rattle.procedure.specs.Entry.{held}
 use Rattle.procedure.proofs.Nodes.{nodes-counted, nodes-kept, nodes-listed}
@@ -32,16 +33,10 @@ use Rattle.follow.specs.StateBytes.{Decoded}
 use Rattle.follow.specs.Valid.{AtSpot, ReadOf}
 use Rattle.follow.specs.Run.{RanTo}
 use Rattle.follow.specs.Batch.{Ready, Went, unreached, went}
-use Rattle.plan.proofs.Ranks.{repeats-past}
 use Rattle.follow.specs.Near.{Kept}
-use Rattle.follow.proofs.Reached.{spot-bytes}
-use Rattle.follow.proofs.SmallCounts.{holds-small}
+use Rattle.follow.proofs.Reached.{stood-bytes}
 
 -- ---- an admitted file is ready
-
-same-below : (g h : ℕ → Node) (n : ℕ) → ((i : ℕ) → i < n → g i ≡ h i) → repeatsBelow g n ≡ repeatsBelow h n
-same-below g h zero same = refl
-same-below g h (suc n) same = ap₂ _+_ (same-below g h n (λ i l. same i (omega arith))) (ap isRepeat (same n (omega arith)))
 
 entered-ready : {f nodes : List ℕ} {n : ℕ} (o : Entered f nodes n) → Ready nodes n (o .filled .expr)
 entered-ready {f} {nodes} {n} o =
@@ -52,15 +47,9 @@ entered-ready {f} {nodes} {n} o =
       stands = listed .0;
       sized = listed .1;
       few = counted .1;
-      some =
-          omega (
-            arith,
-            same-below (held nodes) (nodeAt f) n (in-order .tied),
-            ap (repeatsBelow (nodeAt f)) (in-order .counted),
-            in-order .holds .few,
-          );
+      some = omega (arith, repeats-all (held nodes) n (in-order .expr) (listed .0) (listed .1), few-counters (in-order .holds));
       bounded = holds-bounded (in-order .holds);
-      small = holds-small (in-order .holds);
+      small = small-counters (in-order .holds);
     }
 
 -- ---- the answer
@@ -98,29 +87,17 @@ pub stood-below : (e : Expr) (k : Spot e) (node n : ℕ) (counts : List ℕ) →
 stood-below e start node n counts same s = omega (arith, s .0)
 stood-below e (behind p) node n counts same s = omega (arith, s .0, node-below 0 e p)
 
-twos-long : (x : List ℕ) → length (inTwos x) ≡ 2 * length x
-twos-long [] = refl
-twos-long (n ∷ x) = omega (arith, twos-long x)
-
 pub decoded-long : {bytes : List ℕ} {node : ℕ} {counts : List ℕ} → Decoded bytes node counts → length bytes ≡ 66
-decoded-long {bytes} {node} {counts} d = omega (arith, ap length (d .written), twos-long (node ∷ counts), d .long)
+decoded-long {bytes} {node} {counts} d = omega (arith, ap length (d .written), twos-length (node ∷ counts), d .long)
 
 -- ---- the batch
-
--- the bytes of the node and the counters are those of the spot's state
-stood-bytes : (e : Expr) (k : Spot e) (node : ℕ) (counts : List ℕ) → repeats e ≤ 32 → length counts ≡ 32 → AtSpot e k node counts
-    → inTwos (node ∷ counts) ≡ stateBytes (spotState e k)
-stood-bytes e start node counts few long at = spot-bytes e start node counts few long at
-stood-bytes e (behind p) node counts few long at = spot-bytes e (behind p) node counts few long at
 
 spot-long : (e : Expr) (k : Spot e) (node : ℕ) (counts : List ℕ) → AtSpot e k node counts → length counts ≡ 32
 spot-long e start node counts at = at .1 .long
 spot-long e (behind p) node counts at = at .1 .long
 
 few-repeats-in : {nodes : List ℕ} {n : ℕ} {e : Expr} → Ready nodes n e → repeats e ≤ 32
-few-repeats-in {nodes} {n} {e} w =
-    let whole : 0 + size e ≡ n = omega (arith, w .sized) in
-    omega (arith, repeats-past (held nodes) 0 e (w .stands), ap (repeatsBelow (held nodes)) whole, w .some)
+few-repeats-in {nodes} {n} {e} w = omega (arith, repeats-all (held nodes) n e (w .stands) (w .sized), w .some)
 
 pub read-below : (e : Expr) (bytes counts : List ℕ) (a : Read) (node n : ℕ) → size e ≡ n → ReadOf e bytes counts a → a ≡ read.Reached node → node ≤ n
 read-below e bytes counts a node n same told is =

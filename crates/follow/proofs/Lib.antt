@@ -3,7 +3,6 @@ mod StateBytes
 mod RightCounts
 mod Standing
 mod Reached
-mod SmallCounts
 mod Running
 mod Following
 mod Nearby

@@ -1,14 +1,15 @@
 -- From an admitted file and the bytes of a state to the answer of Prompt. Assumes nothing.
 use mathlib.Core.Path.{_≡_, sym, ap, subst, _∙_}
 use mathlib.Core.Logic.{_↔_}
-use mathlib.Core.List.{List, _∷_}
+use mathlib.Core.List.{List}
 use Prim.Native.Nat.{ℕ, _-_, _^_, _≤_, _<_}
 use native.Mathlib.Omega.{arith}
 use Rattle.meaning.specs.declared.Refusal.{Refusal}
 use Rattle.meaning.specs.declared.Refusal.the-variants.{Unreached}
 use Rattle.meaning.specs.declared.PromptAnswer.{PromptAnswer}
 use Rattle.meaning.specs.declared.PromptAnswer.the-variants as prompt
-use Rattle.meaning.specs.Bytes.{twoAt, inTwos}
+use Rattle.meaning.specs.Bytes.{twoAt}
+use Rattle.meaning.proofs.Twos.{first-two}
 use Rattle.meaning.specs.Codes.{Has}
 use Rattle.meaning.specs.Expr.{Expr}
 use Rattle.meaning.specs.File.{Admitted}
@@ -59,8 +60,7 @@ read-event e bytes counts a node ready told is some =
 -- the first two bytes hold the node
 decoded-node : {bytes : List ℕ} {node : ℕ} {counts : List ℕ} → Decoded bytes node counts → node ≡ twoAt bytes 0
 decoded-node {bytes} {node} {counts} d =
-    let held-there : twoAt (inTwos (node ∷ counts)) 0 ≡ node = omega (arith, d .small) in
-    sym (ap (λ (x : List ℕ). twoAt x 0) (d .written) ∙ held-there)
+    sym (ap (λ (x : List ℕ). twoAt x 0) (d .written) ∙ first-two node counts (d .narrow))
 
 -- ---- the answer
 

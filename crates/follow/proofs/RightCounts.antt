@@ -13,9 +13,9 @@ use Rattle.meaning.specs.Expr.{Expr, empty, event, choice, sequence, repeat, Up
 use Rattle.meaning.specs.Node.{Node, node, bound, Stands, repeatsBelow}
 use Rattle.meaning.specs.Normal.{isZero, nullable, low}
 use Rattle.meaning.specs.State.{stop}
-use Rattle.meaning.proofs.Place.{Place, nodeOf, codeOf, Sound}
+use Rattle.meaning.proofs.Place.{Place, nodeOf, Sound}
 use Rattle.meaning.proofs.Marks.{node-from, node-below}
-use Rattle.meaning.proofs.States.{most}
+use Rattle.meaning.proofs.States.{most, stop-within, most-within, most-stop}
 use Rattle.procedure.specs.Entry.{held, kindOf}
 use Rattle.plan.specs.Table.{startIn, emptyIn}
 use Rattle.plan.specs.Plan.{rankAt, repeats, bit, Own}
@@ -130,27 +130,12 @@ clear-all counts k j long h f i a = ⊎-elim (λ l. f i a l) (λ l. List·getD-e
 
 -- ---- a counter and the blocks begun
 
--- a number from 1 to the most counts the blocks begun, and those are so counted
+-- a number from 1 to the most counts the blocks begun
 counter-blocks : (lower c : ℕ) (upper : Upper) → 1 ≤ c → c ≤ most lower upper → (j : ℕ) × Within (suc j) upper × (c ≡ stop lower upper (suc j))
 counter-blocks lower zero upper h k = absurd (omega arith)
-counter-blocks lower (suc j) (upto n) h k = (j, k, refl)
-counter-blocks lower (suc j) endless h k = (j, tt, omega arith)
-
-pub blocks-counter : (lower j : ℕ) (upper : Upper) → Within (suc j) upper → (1 ≤ stop lower upper (suc j)) × (stop lower upper (suc j) ≤ most lower upper)
-blocks-counter lower j (upto n) h = (omega arith, h)
-blocks-counter lower j endless h = (omega arith, omega arith)
+counter-blocks lower (suc j) upper h k = (j, most-within lower (suc j) upper k, sym (most-stop lower (suc j) upper k))
 
 -- ---- a part's counters
-
--- the event of a place stands at its node
-pub place-event : (g : ℕ → Node) (s : ℕ) (e : Expr) → Stands g s e → (q : Place e) → g (nodeOf s e q) ≡ node 1 (codeOf e q) 0 0 0
-place-event g s empty st q = absurd q
-place-event g s (event c) st q = st
-place-event g s (choice l r) st (inl q) = place-event g s l (st .0) q
-place-event g s (choice l r) st (inr q) = place-event g (s + size l) r (st .1) q
-place-event g s (sequence l r) st (inl q) = place-event g s l (st .0) q
-place-event g s (sequence l r) st (inr q) = place-event g (s + size l) r (st .1) q
-place-event g s (repeat b lower upper) st q = place-event g s b (st .0) (q .0)
 
 module _
     (nodes plan counts : List ℕ)
@@ -314,7 +299,7 @@ module _
         passes-right s k l r 3 (st .0) (ap kindOf (st .2)) (λ f. omega arith) (omega (arith, node-from (s + size l) r q)) (w .0)
         (passes (s + size l) (k + repeats l) r (st .1) q sound here (w .1))
     passes s k (repeat b lower upper) st q sound here w = λ fit e.
-        let within = blocks-counter (low (nullable b) lower) (q .1) upper (sound .1) in
+        let within = stop-within (low (nullable b) lower) (q .1) upper (sound .1) in
         let c = getD counts (k + repeats b) 0 in
         let count : c ≡ stop (low (nullable b) lower) upper (suc (q .1)) = w .1 in
         let fits =

@@ -5,19 +5,21 @@ use mathlib.Core.List.{List}
 use Prim.Native.Nat.{ℕ, suc, _+_, _-_, _≤_, _<_}
 use native.Mathlib.Omega.{arith}
 use lib.ListN.{length}
-use Rattle.meaning.specs.Expr.{Expr, size}
+use Rattle.meaning.specs.Expr.{Expr}
 use Rattle.meaning.specs.Node.{isRepeat, repeatsBelow}
 use Rattle.meaning.proofs.Place.{Place, nodeOf, Sound}
 use Rattle.meaning.proofs.Parts.{root-size}
 use Rattle.meaning.proofs.Marks.{node-below}
+use Rattle.meaning.proofs.Directly.{place-part}
+use Rattle.meaning.proofs.EventNodes.{part-stands}
+use Rattle.meaning.proofs.StateBytes.{more-below, repeats-all}
 use Rattle.meaning.proofs.Spots.{Spot, start, behind, Safe}
 use Rattle.procedure.specs.Entry.{held, kindOf}
 use Rattle.procedure.specs.Tests.{Decides}
 use Rattle.plan.specs.Plan.{rankAt, repeats, Plans}
 use Rattle.steps.specs.Counts.{Marked}
 use Rattle.follow.specs.Valid.{AtSpot, CanStand, AllRight, ClearFrom}
-use Rattle.plan.proofs.Ranks.{repeats-past}
-use Rattle.follow.proofs.RightCounts.{place-event, inside, passes}
+use Rattle.follow.proofs.RightCounts.{inside, passes}
 
 -- what a test decides, by its answer
 pub decided-yes : (P : Type 0) (r : Bool) → r ≡ true → Decides P r → P
@@ -44,17 +46,16 @@ module _ {nodes plan : List ℕ} {n : ℕ} {e : Expr} (w : Plans nodes plan n e)
   pub one-node : 1 ≤ n
   one-node = omega (arith, root-size 0 e, w .sized)
 
-  repeats-all : (m : ℕ) → m ≡ rankAt plan (n - 1) + isRepeat (held nodes (n - 1)) → m ≡ repeats e
-  repeats-all m h =
+  repeats-here : repeatsBelow (held nodes) n ≡ repeats e
+  repeats-here = repeats-all (held nodes) n e (w .stands) (w .sized)
+
+  repeats-last : (m : ℕ) → m ≡ rankAt plan (n - 1) + isRepeat (held nodes (n - 1)) → m ≡ repeats e
+  repeats-last m h =
       let last : n ≡ suc (n - 1) = omega (arith, one-node) in
-      let whole : 0 + size e ≡ n = omega (arith, w .sized) in
-      let all : repeatsBelow (held nodes) (suc (n - 1)) ≡ repeatsBelow (held nodes) (0 + size e) = ap (repeatsBelow (held nodes)) (sym last ∙ sym whole) in
-      omega (arith, w .ranks (n - 1) (omega (arith, one-node)), repeats-past (held nodes) 0 e (w .stands), all)
+      omega (arith, w .ranks (n - 1) (omega (arith, one-node)), more-below (held nodes) (n - 1) n last, repeats-here)
 
   pub few-repeats : repeats e ≤ 32
-  few-repeats =
-      let whole : 0 + size e ≡ n = omega (arith, w .sized) in
-      omega (arith, repeats-past (held nodes) 0 e (w .stands), ap (repeatsBelow (held nodes)) whole, w .some)
+  few-repeats = omega (arith, repeats-here, w .some)
 
   module _ (counts : List ℕ) (node : ℕ) where
     pub start-decided : (r : Bool) → length counts ≡ 32 → node ≡ 0 → Decides (ClearFrom counts 0) r → Decides (CanStand e node counts) r
@@ -70,7 +71,7 @@ module _ {nodes plan : List ℕ} {n : ℕ} {e : Expr} (w : Plans nodes plan n e)
     not-event h f t =
         let q = spot-behind e node counts (t .0) (t .1) (t .2) h in
         let here : node - 1 ≡ nodeOf 0 e (q .0) = omega (arith, q .2) in
-        f (ap (λ (y : ℕ). kindOf (held nodes y)) here ∙ ap kindOf (place-event (held nodes) 0 e (w .stands) (q .0)))
+        f (ap (λ (y : ℕ). kindOf (held nodes y)) here ∙ ap kindOf (part-stands (held nodes) 0 e _ _ (w .stands) (place-part 0 e (q .0))))
 
     pub not-right : (b : Bool) → ¬ (node ≡ 0) → b ≡ false → Decides (AllRight nodes plan counts (node - 1) n) b → ¬ CanStand e node counts
     not-right b h f d t =
@@ -88,8 +89,8 @@ module _ {nodes plan : List ℕ} {n : ℕ} {e : Expr} (w : Plans nodes plan n e)
         let t =
         inside nodes plan counts n (node - 1) (w .ranks) (w .own) 0 0 e (w .stands) kind (omega (arith, w .sized)) refl (omega arith)
         (omega (arith, w .sized)) (λ y a b. all y (omega (arith, w .sized))) in
-        let past : ClearFrom counts (repeats e) = λ j g. z j (omega (arith, repeats-all m rank)) in
+        let past : ClearFrom counts (repeats e) = λ j g. z j (omega (arith, repeats-last m rank)) in
         (behind (t .0), t .1, (omega (arith, t .2), record { holds = t .3; past = past; long = long }))
     right-decided b false m long h l kind f d rank z = λ t.
         let q = spot-behind e node counts (t .0) (t .1) (t .2) h in
-        z (λ j g. q .3 .past j (omega (arith, repeats-all m rank)))
+        z (λ j g. q .3 .past j (omega (arith, repeats-last m rank)))

@@ -1,15 +1,16 @@
 -- Numbers in two bytes each: what is put there is there, and bytes and numbers determine each other. Assumes nothing.
 use mathlib.Core.Path.{_≡_, refl, sym, ap, _∙_, subst}
-use mathlib.Core.List.{List, [], _∷_, head-eq-of-cons-eq, tail-eq-of-cons-eq, cons≢nil}
-use mathlib.Core.Logic.{_⊎_, inl, inr, ⊎-elim}
+use mathlib.Core.List.{List, [], _∷_, head-eq-of-cons-eq, tail-eq-of-cons-eq}
+use mathlib.Core.Logic.{_⊎_, inl, inr}
 use Prim.Native.Nat.{ℕ, zero, suc, _+_, _*_, _/_, _%_, _≤_, _<_}
 use native.Mathlib.Decide.{decLt}
 use native.Mathlib.Omega.{arith}
 use borrow.Author.Count.{below-more}
-use lib.ListN.{length, getD, set, length-set, List·getD-eq-default}
+use lib.ListN.{length, getD, set, length-set}
 use lib.Seq.{getD-set-same, getD-set-other}
 use Rattle.meaning.specs.Bytes.{byteAt, twoAt, inTwos}
-use Rattle.follow.specs.StateBytes.{Narrow, Decoded}
+use Rattle.meaning.proofs.Twos.{Narrow, narrow-each, narrow-unique}
+use Rattle.follow.specs.StateBytes.{Decoded}
 
 -- a number is below another, or it is not
 pub below-or-from : (k m : ℕ) → (k < m) ⊎ (m ≤ k)
@@ -79,30 +80,11 @@ filled-twos (a ∷ b ∷ f) (x ∷ xs) h w =
 
 -- ---- bytes and numbers determine each other
 
--- numbers that fit in two bytes each are determined by their bytes
-pub twos-same : (x y : List ℕ) → Narrow x → Narrow y → inTwos x ≡ inTwos y → x ≡ y
-twos-same [] [] h k e = refl
-twos-same [] (b ∷ y) h k e = absurd (cons≢nil (sym e))
-twos-same (a ∷ x) [] h k e = absurd (cons≢nil e)
-twos-same (a ∷ x) (b ∷ y) h k e =
-    let first = head-eq-of-cons-eq e in
-    let second = head-eq-of-cons-eq (tail-eq-of-cons-eq e) in
-    let small = h 0 in
-    let little = k 0 in
-    let same : a ≡ b = omega arith in
-    let rest = twos-same x y (λ i. h (suc i)) (λ i. k (suc i)) (tail-eq-of-cons-eq (tail-eq-of-cons-eq e)) in
-    λ i. same i ∷ rest i
-
-narrow-cons : (a : ℕ) (x : List ℕ) → a < 65536 → Narrow x → Narrow (a ∷ x)
-narrow-cons a x h w zero = h
-narrow-cons a x h w (suc k) = w k
-
 -- what is decoded is what was encoded
 pub decoded-unique : {bytes : List ℕ} {node : ℕ} {counts : List ℕ} → Decoded bytes node counts
-    → (m : ℕ) (d : List ℕ) → m < 65536 → Narrow d → bytes ≡ inTwos (m ∷ d) → (node ≡ m) × (counts ≡ d)
-decoded-unique {bytes} {node} {counts} w m d h k e =
-    let same =
-    twos-same (node ∷ counts) (m ∷ d) (narrow-cons node counts (w .small) (w .narrow)) (narrow-cons m d h k) (sym (w .written) ∙ e) in
+    → (m : ℕ) (d : List ℕ) → Narrow (m ∷ d) → bytes ≡ inTwos (m ∷ d) → (node ≡ m) × (counts ≡ d)
+decoded-unique {bytes} {node} {counts} w m d h e =
+    let same = narrow-unique (node ∷ counts) (m ∷ d) (w .narrow) h (sym (w .written) ∙ e) in
     (head-eq-of-cons-eq same, tail-eq-of-cons-eq same)
 
 -- ---- what is read from the bytes
@@ -124,19 +106,12 @@ module _ (bytes counts : List ℕ) (small : (k : ℕ) → byteAt bytes k < 256) 
       let here : 2 * k + 2 ≡ 2 * suc k = omega arith in
       two-of bytes (2 * suc k) (getD counts k 0) small (w k (omega arith) ∙ ap (twoAt bytes) here)
 
-  read-narrow : Narrow counts
-  read-narrow k = ⊎-elim inside outside (below-or-from k 32)
-    where
-      inside : k < 32 → getD counts k 0 < 65536
-      inside h = omega (arith, w k h, small (2 * k + 2), small (2 * k + 2 + 1))
-
-      outside : 32 ≤ k → getD counts k 0 < 65536
-      outside h = omega (arith, List·getD-eq-default counts 0 {n = k} (omega arith))
-
   pub read-decoded : length bytes ≡ 66 → (node : ℕ) → node ≡ twoAt bytes 0 → Decoded bytes node counts
   read-decoded h node e = record {
     written = filled-twos bytes (node ∷ counts) (omega arith) (subst (Filled bytes (node ∷ counts)) (omega arith) (read-filled node e));
-    small = omega (arith, small 0, small 1);
-    narrow = read-narrow;
+    narrow = (
+      omega (arith, small 0, small 1),
+      narrow-each counts (λ k l. omega (arith, w k (omega arith), small (2 * k + 2), small (2 * k + 2 + 1))),
+    );
     long = long;
   }

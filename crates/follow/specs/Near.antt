@@ -3,7 +3,7 @@ use mathlib.Core.Path.{_≡_}
 use mathlib.Core.Logic.{_↔_}
 use mathlib.Core.Bool.{Bool, true, cond, _&&_, So}
 use mathlib.Core.List.{List}
-use Prim.Native.Nat.{ℕ, suc, _-_, _<_}
+use Prim.Native.Nat.{ℕ, _-_, _<_}
 use lib.Dec.{eqb, leb}
 use Rattle.meaning.specs.Codes.{Has}
 use Rattle.meaning.specs.Expr.{Expr, event, size, Part}

@@ -5,12 +5,11 @@ use mathlib.Core.List.{List}
 use Prim.Native.Nat.{ℕ, _+_, _≤_, _<_}
 use lib.Dec.{eqb, leb, ltb}
 use lib.ListN.{getD}
-use Rattle.meaning.specs.Expr.{Expr, empty, event, choice, sequence, repeat}
+use Rattle.meaning.specs.Expr.{Expr}
 use Rattle.meaning.specs.Node.{Node}
-use Rattle.meaning.specs.Normal.{nullable, low}
 use Rattle.meaning.proofs.Place.{nodeOf}
-use Rattle.meaning.proofs.States.{most}
 use Rattle.meaning.proofs.Spots.{Spot, start, behind, Safe}
+pub use Rattle.meaning.proofs.StateBytes.{Small}
 use Rattle.procedure.specs.Entry.{held, kindOf, lowerOf, upperOf}
 use Rattle.meaning.specs.Promises.{NoneReaches}
 use Rattle.follow.specs.declared.valid.Read.{Read}
@@ -28,14 +27,6 @@ AtSpot e (behind p) node counts = (node ≡ nodeOf 0 e p + 1) × Marked counts e
 -- a run can stand at the node with the counters
 abbrev pub CanStand : Expr → ℕ → List ℕ → Type 0
 CanStand e node counts = (k : Spot e) × Safe e k × AtSpot e k node counts
-
--- every counter's largest number fits in two bytes
-abbrev pub Small : Expr → Type 0
-Small empty = Unit {0}
-Small (event c) = Unit {0}
-Small (choice l r) = Small l × Small r
-Small (sequence l r) = Small l × Small r
-Small (repeat b lower upper) = Small b × (most (low (nullable b) lower) upper < 65536)
 
 -- the largest number that the counter of a repeat holds, by its node and what the plan tells of it
 abbrev pub mostOf : Node → ℕ → ℕ

@@ -125,10 +125,8 @@ fn repeat_sets(i: usize, node: u64, b: Sets) -> Sets
     // First of the body: where another block may follow, and where it may follow or not.
     let follows = only_if(again(upper), b.first);
     let own = conflict::shared_at(i, conflict::REPEAT, b.after, follows);
-    let may_follow = only_if(
-        flexible(entry::normal_lower(b.nullable, lower), upper),
-        b.first,
-    );
+    let least = entry::normal_lower(b.nullable, lower);
+    let may_follow = only_if(flexible(least, upper), b.first);
     Sets {
         nullable: (lower == 0) | b.nullable,
         first: b.first,

@@ -1,16 +1,15 @@
 -- The prompt never hides a step: every code that continues a run is lit where the run stands. Assumes nothing.
 use mathlib.Core.Path.{_≡_, refl, sym, ap, subst, _∙_}
 use mathlib.Core.List.{List, [], _∷_, _++_, append-assoc}
-use Prim.Native.Nat.{ℕ, _+_, _<_}
+use Prim.Native.Nat.{ℕ, _+_}
 use native.Mathlib.Numerals.{add-one}
-use native.Mathlib.Omega.{arith}
 use Rattle.meaning.specs.declared.PromptAnswer.the-variants as prompt
-use Rattle.meaning.specs.Bytes.{twoAt, inTwos}
+use Rattle.meaning.specs.Bytes.{twoAt}
 use Rattle.meaning.specs.Codes.{Has}
-use Rattle.meaning.specs.Expr.{Expr, Bounded, size}
+use Rattle.meaning.specs.Expr.{Expr, Bounded}
 use Rattle.meaning.specs.File.{Admitted}
 use Rattle.meaning.specs.Promises.{Lights, Prompts}
-use Rattle.meaning.specs.State.{State, Reaches, ReachesBytes, padded, reached, stateOf}
+use Rattle.meaning.specs.State.{State, Reaches, ReachesBytes, padded, reached, stateBytes, stateOf}
 use Rattle.meaning.specs.Strong.{StronglyDeterministic}
 use Rattle.meaning.specs.Word.{Begins}
 use Rattle.meaning.proofs.Directly.{place-part}
@@ -18,14 +17,15 @@ use Rattle.meaning.proofs.Files.{holds-bounded}
 use Rattle.meaning.proofs.FirstAfter.{start-first}
 use Rattle.meaning.proofs.FirstWorded.{first-iff-worded}
 use Rattle.meaning.proofs.Loosened.{step-near, lights-iff-near}
-use Rattle.meaning.proofs.Marks.{node-below}
 use Rattle.meaning.proofs.Outcomes.{admitted-unique}
 use Rattle.meaning.proofs.Place.{nodeOf, codeOf, itemOf}
 use Rattle.meaning.proofs.Runs.{spotState, reaches-run}
 use Rattle.meaning.proofs.Search.{way-reaches}
 use Rattle.meaning.proofs.Spots.{Spot, start, behind, Move, Next, Arrival, Way, cut}
+use Rattle.meaning.proofs.StateBytes.{numbers-fit}
 use Rattle.meaning.proofs.States.{one-state}
 use Rattle.meaning.proofs.Stays.{reached-append}
+use Rattle.meaning.proofs.Twos.{first-two}
 use Rattle.meaning.proofs.WordReading.{word-iff-reading}
 
 -- the node of a spot, as a state has it
@@ -50,20 +50,12 @@ move-lit e h (behind p) v n =
     subst (λ (i : ℕ). Lights e i (codeOf e t)) (sym (add-one (nodeOf 0 e p)))
     (lights-iff-near e h p (codeOf e t) .1 (nodeOf 0 e t, step-near 0 e p t (v .1) n, place-part 0 e t))
 
--- the first two bytes hold the first number
-first-number : (n : ℕ) (x : List ℕ) → n < 65536 → twoAt (inTwos (n ∷ x)) 0 ≡ n
-first-number n x h = omega arith
-
-node-small : (f : List ℕ) (e : Expr) → Admitted f e → (u : List ℕ) (z : State) → Reaches e u z → z .node < 65536
-node-small f e a u z r =
+-- the first two bytes of a state hold its node
+state-node : (f : List ℕ) (e : Expr) → Admitted f e → (u : List ℕ) (z : State) → Reaches e u z → twoAt (stateBytes z) 0 ≡ z .node
+state-node f e a u z r =
     let at = reaches-run e (holds-bounded (a .holds)) u z r in
-    let lists = a .holds .formed .lists .1 in
-    let few = a .holds .formed .framed .2 .1 in
-    subst (λ (y : State). y .node < 65536) (at .2) (small (at .0) (omega arith))
-  where
-    small : (k : Spot e) → size e < 65535 → spotState e k .node < 65536
-    small start h = omega arith
-    small (behind p) h = omega (arith, node-below 0 e p)
+    subst (λ (y : State). twoAt (stateBytes y) 0 ≡ y .node) (at .2)
+    (first-two (spotState e (at .0) .node) (padded (spotState e (at .0) .counts)) (numbers-fit f e (a .holds) (at .0) (at .1 .safe)))
 
 -- a code that continues a run is lit at the node that the run reaches
 pub continues-lit : (e : Expr) → Bounded e → StronglyDeterministic e → (u : List ℕ) (z : State) (c : ℕ) → Reaches e u z → Begins e (u ++ (c ∷ []))
@@ -84,5 +76,5 @@ prompt-hides-nothing f state set (Prompts.lit d v other told came small holds) e
     let same = admitted-unique f d e told admitted in
     let z = r .0 in
     let lit = continues-lit e (holds-bounded (admitted .holds)) (admitted .strong) u z c (r .1) b in
-    let node : twoAt state 0 ≡ z .node = ap (λ (x : List ℕ). twoAt x 0) (r .2) ∙ first-number (z .node) (padded (z .counts)) (node-small f e admitted u z (r .1)) in
+    let node : twoAt state 0 ≡ z .node = ap (λ (x : List ℕ). twoAt x 0) (r .2) ∙ state-node f e admitted u z (r .1) in
     holds c .1 (subst (λ (x : Expr). Lights x (twoAt state 0) c) (sym same) (subst (λ (i : ℕ). Lights e i c) (sym node) lit))

@@ -3,7 +3,7 @@
 use mathlib.Core.Path.{_≡_, refl, sym, ap, ap₂, _∙_, subst, subst⁻¹}
 use mathlib.Core.Logic.{_↔_, _⊎_, inl, inr, ⊎-elim}
 use mathlib.Core.List.{List, [], _∷_, _++_, append-assoc, append-nil}
-use Prim.Native.Nat.{ℕ, zero, suc, _+_, _≤_, min, max}
+use Prim.Native.Nat.{ℕ, zero, suc, _+_, _≤_, max}
 use native.Mathlib.Omega.{arith}
 use lib.ListN.{length, length-append, length-take}
 use Rattle.meaning.specs.Expr.{Expr, empty, event, choice, sequence, repeat, size, Upper, upto, endless, Within, Bounded}
@@ -123,10 +123,13 @@ CountersAt s (choice l r) i = Or (Cat (CountersAt s l i) (Zeros r)) (Cat (Zeros 
 CountersAt s (sequence l r) i = Or (Cat (CountersAt s l i) (Zeros r)) (Cat (Zeros l) (CountersAt (s + size l) r i))
 CountersAt s (repeat b lower upper) i = Cat (CountersAt s b i) (Counting (low (nullable b) lower) upper)
 
--- a repeat that has begun a block within its bound counts within its most
+-- a repeat that has begun a block within its bound counts from 1 to its most
+pub stop-within : (lower k : ℕ) (upper : Upper) → Within (suc k) upper → (1 ≤ stop lower upper (suc k)) × (stop lower upper (suc k) ≤ most lower upper)
+stop-within lower k (upto n) h = (omega arith, h)
+stop-within lower k endless h = (omega arith, omega arith)
+
 stop-counting : (lower k : ℕ) (upper : Upper) → Within (suc k) upper → Counting lower upper (stop lower upper (suc k) ∷ [])
-stop-counting lower k (upto n) h = counting (suc k) (omega arith) h
-stop-counting lower k endless h = counting (min (suc k) (max 1 lower)) (omega arith) (omega arith)
+stop-counting lower k upper h = let t = stop-within lower k upper h in counting (stop lower upper (suc k)) (t .0) (t .1)
 
 -- the counters of a sound place are right for its node
 place-counters : (s : ℕ) (e : Expr) (p : Place e) → Sound e p → CountersAt s e (nodeOf s e p) (placeCounts e p)
@@ -140,11 +143,11 @@ place-counters s (repeat b lower upper) p k =
     cat (placeCounts b (p .0)) _ (place-counters s b (p .0) (k .0)) (stop-counting (low (nullable b) lower) (p .1) upper (k .1))
 
 -- what a counter may hold is a number of blocks within the bound, and is counted as it is
-most-within : (lower k : ℕ) (upper : Upper) → k ≤ most lower upper → Within k upper
+pub most-within : (lower k : ℕ) (upper : Upper) → k ≤ most lower upper → Within k upper
 most-within lower k (upto n) h = h
 most-within lower k endless h = tt
 
-most-stop : (lower k : ℕ) (upper : Upper) → k ≤ most lower upper → stop lower upper k ≡ k
+pub most-stop : (lower k : ℕ) (upper : Upper) → k ≤ most lower upper → stop lower upper k ≡ k
 most-stop lower k (upto n) h = refl
 most-stop lower k endless h = omega arith
 

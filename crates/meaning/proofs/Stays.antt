@@ -285,7 +285,15 @@ before-reached : (s : ℕ) (e : Expr) (p : Place e) (u : List Item) (n : ℕ) �
 before-reached s e p u n b =
     let t = before-ends s e p u b in ap (λ (x : List Item). reached x n) (t .1) ∙ reached-append (t .0) (itemOf s e p ∷ []) n
 
--- a zero for each repeat of the part
+-- how many repeats the part has
+abbrev pub repeats : Expr → ℕ
+repeats empty = 0
+repeats (event c) = 0
+repeats (choice l r) = repeats l + repeats r
+repeats (sequence l r) = repeats l + repeats r
+repeats (repeat b lower upper) = repeats b + 1
+
+-- a zero for each of them
 abbrev pub zeros : Expr → List ℕ
 zeros empty = []
 zeros (event c) = []

@@ -1,15 +1,25 @@
--- Numbers in two bytes each: those that fit are determined by their bytes.
+-- Numbers in two bytes each: how many bytes there are, and those numbers that fit are determined by their bytes.
 use mathlib.Core.Path.{_≡_, refl, sym}
 use mathlib.Core.List.{List, [], _∷_, _++_, cons≢nil, head-eq-of-cons-eq, tail-eq-of-cons-eq}
-use Prim.Native.Nat.{ℕ, zero, suc, _<_}
+use Prim.Native.Nat.{ℕ, zero, suc, _*_, _<_}
 use native.Mathlib.Omega.{arith}
-use lib.ListN.{take, replicate}
-use Rattle.meaning.specs.Bytes.{inTwos}
+use lib.ListN.{length, getD, take, replicate}
+use Rattle.meaning.specs.Bytes.{inTwos, twoAt}
+
+-- two bytes a number
+pub twos-length : (x : List ℕ) → length (inTwos x) ≡ 2 * length x
+twos-length [] = refl
+twos-length (n ∷ x) = omega (arith, twos-length x)
 
 -- every number fits in two bytes
 abbrev pub Narrow : List ℕ → Type 0
 Narrow [] = Unit {0}
 Narrow (n ∷ ns) = (n < 65536) × Narrow ns
+
+-- by place in the list
+pub narrow-each : (x : List ℕ) → ((i : ℕ) → i < length x → getD x i 0 < 65536) → Narrow x
+narrow-each [] f = tt
+narrow-each (n ∷ x) f = (f 0 (omega arith), narrow-each x (λ i l. f (suc i) (omega arith)))
 
 -- so in two lists, in the first of a list, and in zeros
 pub narrow-append : (x y : List ℕ) → Narrow x → Narrow y → Narrow (x ++ y)
@@ -36,3 +46,7 @@ narrow-unique (m ∷ x) (n ∷ y) h g e =
     let same : m ≡ n = omega arith in
     let rest = narrow-unique x y (h .1) (g .1) (tail-eq-of-cons-eq (tail-eq-of-cons-eq e)) in
     λ i. same i ∷ rest i
+
+-- the first two bytes hold the first number
+pub first-two : (n : ℕ) (x : List ℕ) → Narrow (n ∷ x) → twoAt (inTwos (n ∷ x)) 0 ≡ n
+first-two n x h = omega (arith, h .0)

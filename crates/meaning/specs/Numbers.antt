@@ -55,18 +55,24 @@ pub record FollowNumbers : Type 0 where
   pub taken : ℕ
   pub verdict : ℕ
 
+abbrev pub followed : ℕ → ℕ → ℕ → FollowNumbers
+followed a t v = record { answer = a; taken = t; verdict = v }
+
 abbrev pub followNumbers : FollowAnswer → FollowNumbers
-followNumbers (follow.Followed t v) = record { answer = 0; taken = t; verdict = verdictNumber v }
-followNumbers (follow.Refused r) = record { answer = row r .answer; taken = 0; verdict = 0 }
+followNumbers (follow.Followed t v) = followed 0 t (verdictNumber v)
+followNumbers (follow.Refused r) = followed (row r .answer) 0 0
 
 -- the numbers of Write: 0 to 7 or 9 to 11, the length in bytes
 pub record WriteNumbers : Type 0 where
   pub answer : ℕ
   pub length : ℕ
 
+abbrev pub wrote : ℕ → ℕ → WriteNumbers
+wrote a n = record { answer = a; length = n }
+
 abbrev pub writeNumbers : WriteAnswer → WriteNumbers
-writeNumbers (write.Written n) = record { answer = 0; length = n }
-writeNumbers (write.Refused r) = record { answer = row r .answer; length = 0 }
+writeNumbers (write.Written n) = wrote 0 n
+writeNumbers (write.Refused r) = wrote (row r .answer) 0
 
 -- the numbers of Check: 0 to 6, yes (1) or no (0)
 pub record CheckNumbers : Type 0 where
@@ -86,6 +92,9 @@ pub record PromptNumbers : Type 0 where
   pub answer : ℕ
   pub set : ℕ
 
+abbrev pub prompted : ℕ → ℕ → PromptNumbers
+prompted a s = record { answer = a; set = s }
+
 abbrev pub promptNumbers : PromptAnswer → PromptNumbers
-promptNumbers (prompt.Lit s) = record { answer = 0; set = s }
-promptNumbers (prompt.Refused r) = record { answer = row r .answer; set = 0 }
+promptNumbers (prompt.Lit s) = prompted 0 s
+promptNumbers (prompt.Refused r) = prompted (row r .answer) 0

@@ -8,6 +8,7 @@ use lib.ListN.{getD}
 use Rattle.meaning.specs.Expr.{Expr, empty, event, choice, sequence, repeat, size, root}
 use Rattle.meaning.specs.Node.{Stands, repeatsBelow}
 use Rattle.meaning.specs.Normal.{nullable}
+pub use Rattle.meaning.proofs.Stays.{repeats}
 use Rattle.procedure.specs.Entry.{held, kindOf}
 use Rattle.plan.specs.Table.{aboveIn, beginsIn, startIn, rankIn, emptyIn}
 
@@ -29,14 +30,6 @@ emptyAt plan i = emptyIn (getD plan i 0)
 -- the node above all others: no node is there
 abbrev pub top : ℕ
 top = 512
-
--- how many repeats a part has
-abbrev pub repeats : Expr → ℕ
-repeats empty = 0
-repeats (event c) = 0
-repeats (choice l r) = repeats l + repeats r
-repeats (sequence l r) = repeats l + repeats r
-repeats (repeat b lower upper) = repeats b + 1
 
 abbrev pub bit : Bool → ℕ
 bit true = 1

@@ -8,14 +8,14 @@ use Rattle.meaning.specs.declared.JudgeAnswer.the-variants as judge
 use Rattle.meaning.specs.declared.CheckAnswer.{CheckAnswer}
 use Rattle.meaning.specs.declared.FollowAnswer.{FollowAnswer}
 use Rattle.meaning.specs.declared.PromptAnswer.{PromptAnswer}
-use Rattle.meaning.specs.Numbers.{JudgeNumbers, checked, checkNumbers, followNumbers, judged, judgeNumbers, promptNumbers, row}
+use Rattle.meaning.specs.Numbers.{JudgeNumbers, checked, checkNumbers, followNumbers, judged, judgeNumbers, promptNumbers, row, followed, prompted}
 use Rattle.meaning.specs.Promises.{Checks, CheckPromise, Follows, FollowPromise, Judges, JudgePromise, Prompts, PromptPromise}
 use Rattle.meaning.proofs.Refusals.{barred-node-small}
 use Rattle.seqp.specs.declared.numbers.Row.{Row}
 use Rattle.seqp.specs.declared.numbers.CheckRow.{CheckRow}
 use Rattle.seqp.specs.declared.numbers.FollowRow.{FollowRow}
 use Rattle.seqp.specs.declared.numbers.PromptRow.{PromptRow}
-use Rattle.seqp.specs.Shown.{checkShown, followed, followShown, prompted, promptShown, shown}
+use Rattle.seqp.specs.Shown.{checkShown, followShown, promptShown, shown}
 
 -- the node that Judge reports is told whole
 node-small : (f : List ℕ) (a : JudgeAnswer) → Judges f a → judgeNumbers a .node < 512

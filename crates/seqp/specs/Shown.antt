@@ -1,5 +1,5 @@
 -- The request's numbers as the code holds them. A model of our code, and no promise.
-use Prim.Native.Nat.{ℕ, _%_}
+use Prim.Native.Nat.{_%_}
 use Rattle.meaning.specs.Numbers.{CheckNumbers, FollowNumbers, JudgeNumbers, PromptNumbers}
 use Rattle.seqp.specs.declared.numbers.CheckRow.{CheckRow}
 use Rattle.seqp.specs.declared.numbers.FollowRow.{FollowRow}
@@ -11,9 +11,6 @@ abbrev pub shown : JudgeNumbers → Row
 shown n = record { answer = n .answer; node = n .node % 4294967296; kind = n .kind; code = n .code }
 
 -- the numbers of Follow
-abbrev pub followed : ℕ → ℕ → ℕ → FollowNumbers
-followed a t v = record { answer = a; taken = t; verdict = v }
-
 abbrev pub followShown : FollowNumbers → FollowRow
 followShown n = record { answer = n .answer; taken = n .taken; verdict = n .verdict }
 
@@ -22,8 +19,5 @@ abbrev pub checkShown : CheckNumbers → CheckRow
 checkShown n = record { answer = n .answer; yes = n .yes }
 
 -- the numbers of Prompt
-abbrev pub prompted : ℕ → ℕ → PromptNumbers
-prompted a s = record { answer = a; set = s }
-
 abbrev pub promptShown : PromptNumbers → PromptRow
 promptShown n = record { answer = n .answer; set = n .set }

@@ -1,7 +1,6 @@
 // The calls for the station's shell, as C sees them. Each gives the request's answer number and always writes its results.
-ghost use Rattle.meaning.specs.Numbers.{checked, judged};
+ghost use Rattle.meaning.specs.Numbers.{checked, followed, judged, prompted};
 ghost use Rattle.meaning.specs.Promises.{CheckPromise, FollowPromise, JudgePromise, PromptPromise};
-ghost use Rattle.seqp.specs.Shown.{followed, prompted};
 
 mod numbers; // numbers.rt: an answer as the request's numbers
 

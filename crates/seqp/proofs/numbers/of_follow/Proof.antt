@@ -3,10 +3,10 @@ use borrow.Author.Needs.{needs}
 use mathlib.Core.Path.{ap}
 use Prim.Native.Nat.{ℕ}
 use Rattle.meaning.specs.declared.FollowAnswer.{FollowAnswer}
-use Rattle.meaning.specs.Numbers.{followNumbers}
+use Rattle.meaning.specs.Numbers.{followNumbers, followed}
 use Rattle.seqp.specs.declared.numbers.FollowRow.{FollowRow}
 use Rattle.seqp.specs.declared.numbers.Row.{Row}
-use Rattle.seqp.specs.Shown.{followed, followShown}
+use Rattle.seqp.specs.Shown.{followShown}
 use Rattle.seqp.proofs.Laws.{arm}
 use Rattle.seqp.proofs.numbers.of_follow.Statement.{statement}
 use Rattle.seqp.proofs.numbers.of_follow.Tie as tie

@@ -2,10 +2,10 @@
 use borrow.Author.Needs.{needs}
 use mathlib.Core.Path.{refl, ap}
 use Rattle.meaning.specs.declared.PromptAnswer.{PromptAnswer}
-use Rattle.meaning.specs.Numbers.{promptNumbers}
+use Rattle.meaning.specs.Numbers.{promptNumbers, prompted}
 use Rattle.seqp.specs.declared.numbers.PromptRow.{PromptRow}
 use Rattle.seqp.specs.declared.numbers.Row.{Row}
-use Rattle.seqp.specs.Shown.{prompted, promptShown}
+use Rattle.seqp.specs.Shown.{promptShown}
 use Rattle.seqp.proofs.Laws.{arm}
 use Rattle.seqp.proofs.numbers.of_prompt.Statement.{statement}
 use Rattle.seqp.proofs.numbers.of_prompt.Tie as tie
