@@ -6,12 +6,14 @@ use native.Mathlib.Omega.{arith}
 use Rattle.meaning.specs.declared.JudgeAnswer.{JudgeAnswer}
 use Rattle.meaning.specs.declared.JudgeAnswer.the-variants as judge
 use Rattle.meaning.specs.declared.CheckAnswer.{CheckAnswer}
-use Rattle.meaning.specs.Numbers.{JudgeNumbers, checked, checkNumbers, judged, judgeNumbers, row}
-use Rattle.meaning.specs.Promises.{Checks, CheckPromise, Judges, JudgePromise}
+use Rattle.meaning.specs.declared.WriteAnswer.{WriteAnswer}
+use Rattle.meaning.specs.Numbers.{JudgeNumbers, checked, checkNumbers, judged, judgeNumbers, row, writeNumbers}
+use Rattle.meaning.specs.Promises.{Checks, CheckPromise, Judges, JudgePromise, Writes, WritePromise}
 use Rattle.meaning.proofs.Refusals.{barred-node-small}
 use Rattle.seqp.specs.declared.numbers.Row.{Row}
 use Rattle.seqp.specs.declared.numbers.CheckRow.{CheckRow}
-use Rattle.seqp.specs.Shown.{checkShown, shown}
+use Rattle.seqp.specs.declared.numbers.WriteRow.{WriteRow}
+use Rattle.seqp.specs.Shown.{checkShown, shown, writeShown, written}
 
 -- the node that Judge reports is told whole
 node-small : (f : List ℕ) (a : JudgeAnswer) → Judges f a → judgeNumbers a .node < 512
@@ -32,6 +34,11 @@ judge-shown f a out j e =
 -- an arm that knows which case it is in
 pub arm : {A B : Type 0} (f : A → B) {x y : A} {out : B} → x ≡ y → out ≡ f y → out ≡ f x
 arm f told out = out ∙ sym (ap f told)
+
+pub write-shown : (f run space after : List ℕ) (a : WriteAnswer) (out : WriteRow) → Writes f run space a after → out ≡ writeShown (writeNumbers a)
+    → WritePromise f run space (written (out .answer) (out .length)) after
+unfolding WritePromise
+write-shown f run space after a out w e = (a, w, ap (λ (r : WriteRow). written (r .answer) (r .length)) e)
 
 pub check-shown : (f bytes : List ℕ) (a : CheckAnswer) (out : CheckRow) → Checks f bytes a → out ≡ checkShown (checkNumbers a)
     → CheckPromise f bytes (checked (out .answer) (out .yes))

@@ -1,6 +1,7 @@
 // The calls for the station's shell, as C sees them. Each gives the request's answer number and always writes its results.
 ghost use Rattle.meaning.specs.Numbers.{checked, judged};
-ghost use Rattle.meaning.specs.Promises.{CheckPromise, JudgePromise};
+ghost use Rattle.meaning.specs.Promises.{CheckPromise, JudgePromise, WritePromise};
+ghost use Rattle.seqp.specs.Shown.{written};
 
 mod numbers; // numbers.rt: an answer as the request's numbers
 
@@ -13,6 +14,16 @@ pub extern "C" fn seq_judge(file: &[u8], node: &mut u32, kind: &mut u32, code: &
     *node = row.node;
     *kind = row.kind;
     *code = row.code;
+    row.answer
+}
+
+// Write a record: 0 to 7 or 9 to 11; the length of the record in bytes, or 0.
+#[no_mangle]
+pub extern "C" fn seq_write(file: &[u8], run: &[u8], space: &mut [u8], length: &mut u64) -> u32
+    ensures { λ r. ⌜ WritePromise (now (file .entry)) (now (run .entry)) (now (space .entry)) (written r (now (length .exit))) (now (space .exit)) ⌝ }
+{
+    let row = numbers::of_write(record::write(file, run, space));
+    *length = row.length;
     row.answer
 }
 

@@ -1,11 +1,12 @@
 // An answer as the request's numbers.
 ghost use mathlib.Core.Path.{_≡_};
 ghost use Prim.Native.Nat.{ℕ};
-ghost use Rattle.meaning.specs.Numbers.{checkNumbers, judged, judgeNumbers, row};
-ghost use Rattle.seqp.specs.Shown.{checkShown, shown};
+ghost use Rattle.meaning.specs.Numbers.{checkNumbers, judged, judgeNumbers, row, writeNumbers};
+ghost use Rattle.seqp.specs.Shown.{checkShown, shown, writeShown};
 use meaning::CheckAnswer;
 use meaning::JudgeAnswer;
 use meaning::Refusal;
+use meaning::WriteAnswer;
 
 // The numbers of an answer, as C gets them.
 pub struct Row {
@@ -61,6 +62,30 @@ pub fn of_judge(answer: JudgeAnswer) -> Row
     match answer {
         JudgeAnswer::Admitted => row_at(0, 0),
         JudgeAnswer::Refused(refusal) => row_of(refusal),
+    }
+}
+
+// What Write gives.
+pub struct WriteRow {
+    pub answer: u32,
+    pub length: u64,
+}
+
+pub fn of_write(answer: WriteAnswer) -> WriteRow
+    ensures { λ r. ⌜ r ≡ writeShown (writeNumbers answer) ⌝ }
+{
+    match answer {
+        WriteAnswer::Written(length) => WriteRow {
+            answer: 0,
+            length: length,
+        },
+        WriteAnswer::Refused(refusal) => {
+            let row = row_of(refusal);
+            WriteRow {
+                answer: row.answer,
+                length: 0,
+            }
+        }
     }
 }
 
