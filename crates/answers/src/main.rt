@@ -5,6 +5,7 @@ mod text; // text.rt: the line of an answer
 use libc::STDOUT_FILENO;
 use stream::read_letter;
 use stream::read_slice;
+use text::print_bytes;
 use text::print_end;
 use text::print_number;
 
@@ -27,6 +28,24 @@ fn answer_judge(file: &mut [u8]) -> bool {
     print_end()
 }
 
+fn answer_write(file: &mut [u8], run: &mut [u8], space: &mut [u8]) -> bool {
+    let length = read_slice(file);
+    let events = read_slice(run);
+    let room = read_slice(space);
+    let mut bytes = JUNK as u64;
+    let answer = seqp::seq_write(
+        &file[..length],
+        &run[..events],
+        &mut space[..room],
+        &mut bytes,
+    );
+    io::write_all(STDOUT_FILENO, b"W");
+    print_number(answer as u64);
+    print_number(bytes);
+    print_bytes(space, room);
+    print_end()
+}
+
 fn answer_check(file: &mut [u8], bytes: &mut [u8]) -> bool {
     let length = read_slice(file);
     let count = read_slice(bytes);
@@ -43,6 +62,7 @@ fn answer_one(first: &mut [u8], second: &mut [u8], third: &mut [u8]) -> bool {
     match read_letter() {
         b'C' => answer_check(first, second),
         b'J' => answer_judge(first),
+        b'W' => answer_write(first, second, third),
         _ => false,
     }
 }
