@@ -1,14 +1,15 @@
 -- What a repeat takes of the numbers of items: a stay is the blocks so far, and any blocks are these and more. Assumes nothing.
 use mathlib.Core.Path.{_≡_, refl, sym, ap, subst, _∙_}
 use mathlib.Core.Logic.{_⊎_, inl, inr, ⊎-elim}
-use mathlib.Core.List.{List, [], _∷_, _++_, map, append-assoc, append-nil}
-use Prim.Native.Nat.{ℕ, zero, suc, _+_, _≤_, _<_}
+use mathlib.Core.List.{List, [], _∷_, _++_, map}
+use Prim.Native.Nat.{ℕ, suc, _+_, _≤_, _<_}
 use native.Mathlib.Omega.{arith}
 use lib.ListN.{length, length-append}
 use Rattle.meaning.specs.Expr.{Upper, Within}
 use Rattle.meaning.specs.Lists.{Power, none, more, Times, times}
 use Rattle.meaning.specs.Reading.{Item, opening, closing, codes, Block, block}
 use Rattle.meaning.specs.Record.{itemNumber}
+use Rattle.meaning.proofs.Facts.{power-snoc}
 use Rattle.record.specs.Walk.{Outside, from, nowhere, Takes}
 use Rattle.record.proofs.Takes.{map-append}
 
@@ -26,14 +27,15 @@ stay-none P s r w = record { so-far = ([], none, refl); further = λ j y t p e o
 
 -- ---- blocks as numbers
 
-power-last : {A : Type 0} {Q : List A → Type 0} {k : ℕ} {x : List A} (y : List A) → Power Q k x → Q y → Power Q (suc k) (x ++ y)
-power-last {A} {Q} y none q = subst (Power Q (suc zero)) (append-nil y) (more zero y [] q none)
-power-last {A} {Q} y (more j u v p t) q =
-    subst (Power Q (suc (suc j))) (sym (append-assoc u v y)) (more (suc j) u (v ++ y) p (power-last y t q))
-
 -- a block of repeat r around the items
-abbrev blockOf : ℕ → List Item → List Item
+abbrev pub blockOf : ℕ → List Item → List Item
 blockOf r x = opening r ∷ (x ++ (closing r ∷ []))
+
+-- blocks are none, or a first one and more
+pub by-block : {C : Type 0} {P : List Item → Type 0} {r d : ℕ} {z : List Item} → Power (Block P r) d z → (d ≡ 0 → z ≡ [] → C)
+    → ((c : ℕ) (u y : List Item) → d ≡ suc c → z ≡ blockOf r u ++ y → P u → 1 ≤ length (codes u) → Power (Block P r) c y → C) → C
+by-block none a b = a refl refl
+by-block (more c u y (block x k p) q) a b = b c x y refl refl p k q
 
 block-numbers : (r : ℕ) (x : List Item) (t : List ℕ)
     → map itemNumber (blockOf r x) ++ t ≡ (r + 4096) ∷ (map itemNumber x ++ ((r + 8192) ∷ t))
@@ -47,9 +49,18 @@ First P r d v t =
 
 first-block : {P : List Item → Type 0} {r d : ℕ} {z : List Item} (t v : List ℕ) → Power (Block P r) d z → v ≡ map itemNumber z ++ t
     → ((d ≡ 0) × (v ≡ t)) ⊎ First P r d v t
-first-block t v none e = inl (refl, e)
-first-block {r = r} t v (more c u z (block x k p) q) e =
-    inr (c, x, z, refl, p, k, q, e ∙ map-append (blockOf r x) z t ∙ block-numbers r x (map itemNumber z ++ t))
+first-block {r = r} t v p e =
+    by-block p (λ d y. inl (d, e ∙ ap (λ (y : List Item). map itemNumber y ++ t) y))
+    (λ c x z d y q k m. inr (
+      c,
+      x,
+      z,
+      d,
+      q,
+      k,
+      m,
+      e ∙ ap (λ (y : List Item). map itemNumber y ++ t) y ∙ map-append (blockOf r x) z t ∙ block-numbers r x (map itemNumber z ++ t),
+    ))
 
 tail-same : (m n : ℕ) (u v : List ℕ) → _≡_ {A = List ℕ} (m ∷ u) (n ∷ v) → u ≡ v
 tail-same m n u v e = cc
@@ -84,7 +95,7 @@ module _ (P : List Item → Type 0) (s m r : ℕ) (next : m + 1 ≡ r) (from-s :
           let e : w ≡ map itemNumber (x ++ blockOf r y) ++ v =
           a .so-far .2 ∙ ap (λ (z : List ℕ). map itemNumber x ++ ((r + 4096) ∷ z)) (b .eaten .2)
           ∙ ap (λ (z : List ℕ). map itemNumber x ++ z) (sym (block-numbers r y v)) ∙ sym (map-append x (blockOf r y) v) in
-          (x ++ blockOf r y, power-last (blockOf r y) (a .so-far .1) (block y (long y (b .eaten .1) (has-item y (b .eaten .2))) (b .eaten .1)), e)
+          (x ++ blockOf r y, power-snoc k x (blockOf r y) (a .so-far .1) (block y (long y (b .eaten .1) (has-item y (b .eaten .2))) (b .eaten .1)), e)
 
       go : (j : ℕ) (y : List Item) (t : List ℕ) → Power (Block P r) j y → w ≡ map itemNumber y ++ t → Outside s r t → Further P r (suc k) v j t
       go j y t p e o =

@@ -1,20 +1,21 @@
--- How readings begin: the first item names a node of the part, a part has the empty reading exactly if it has the empty word, and
--- a reading that is not empty has an event. Assumes nothing.
-use mathlib.Core.Path.{_≡_, refl, subst}
-use mathlib.Core.Logic.{inl, inr, ⊎-elim}
+-- How readings begin: the first item names a node of the part, a part has the empty reading exactly if it has the empty word,
+-- a reading that is not empty has an event, and the first is in first of the part. Assumes nothing.
+use mathlib.Core.Path.{_≡_, refl, sym, ap, subst, _∙_}
+use mathlib.Core.Logic.{_⊎_, inl, inr, ⊎-elim}
 use mathlib.Core.Bool.{So, false≢true, and-eq-true-iff}
-use mathlib.Core.List.{List, [], _∷_, _++_, append-eq-nil-iff}
+use mathlib.Core.List.{List, [], _∷_, _++_, append-eq-nil-iff, cons≢nil, head-eq-of-cons-eq}
 use Prim.Native.Nat.{ℕ, _+_, _≤_}
 use native.Mathlib.Omega.{arith}
 use lib.ListN.{length}
 use Rattle.meaning.specs.Expr.{Expr, empty, event, choice, sequence, repeat, size, root, Upper, upto, endless, Within}
 use Rattle.meaning.specs.Lists.{nil, one, left, right, Cat, cat, Power, none, more, Times, times}
 use Rattle.meaning.specs.Normal.{nullable}
-use Rattle.meaning.specs.Reading.{Item, opening, closing, Reading, codes, Block, block}
+use Rattle.meaning.specs.Reading.{Item, place, opening, closing, Reading, codes, Block, block}
 use Rattle.meaning.specs.Record.{itemNode}
+use Rattle.meaning.specs.Sets.{First}
 use Rattle.meaning.proofs.Facts.{so-or, low-zero, zero-low}
 use Rattle.meaning.proofs.Files.{root-size}
-use Rattle.meaning.proofs.Items.{events-append}
+use Rattle.meaning.proofs.Items.{codes-block, events-append}
 
 -- ---- the first item
 
@@ -106,3 +107,41 @@ reading-long s (choice l r) x (left a) h = reading-long s l x a h
 reading-long s (choice l r) x (right a) h = reading-long (s + size l) r x a h
 reading-long s (sequence l r) x (cat u v a b) h = append-long u v h (reading-long s l u a) (reading-long (s + size l) r v b)
 reading-long s (repeat b lower upper) x (times j lo up p) h = blocks-long p h
+
+-- so one with no event is empty, and its part has the empty word
+pub no-codes : (s : ℕ) (e : Expr) (x : List Item) → Reading s e x → codes x ≡ [] → x ≡ []
+no-codes s e [] p h = refl
+no-codes s e (a ∷ x) p h =
+    let n : length (codes (a ∷ x)) ≡ 0 = ap length h in
+    absurd (omega (arith, reading-long s e (a ∷ x) p (omega arith)))
+
+pub no-codes-null : (s : ℕ) (e : Expr) (x : List Item) → Reading s e x → codes x ≡ [] → So (nullable e)
+no-codes-null s e x p h = reading-empty s e (subst (Reading s e) (no-codes s e x p h) p)
+
+-- ---- the first code
+
+-- the first code of two lists is that of the first, or that of the second where the first has none
+codes-begin : (x y : List Item) (c : ℕ) (v : List ℕ) → codes (x ++ y) ≡ c ∷ v → ((u : List ℕ) × (codes x ≡ c ∷ u)) ⊎ ((codes x ≡ []) × (codes y ≡ c ∷ v))
+codes-begin [] y c v e = inr (refl, e)
+codes-begin (place i d ∷ x) y c v e = inl (codes x, ap {B = List ℕ} (λ k. k ∷ codes x) (head-eq-of-cons-eq e))
+codes-begin (opening r ∷ x) y c v e = codes-begin x y c v e
+codes-begin (closing r ∷ x) y c v e = codes-begin x y c v e
+
+-- that of blocks is that of a body
+pub blocks-first : {P : List Item → Type 0} {r j : ℕ} {x : List Item} (F : ℕ → Type 0)
+    → ((y : List Item) (c : ℕ) (v : List ℕ) → P y → codes y ≡ c ∷ v → F c) → Power (Block P r) j x → (c : ℕ) (v : List ℕ) → codes x ≡ c ∷ v → F c
+blocks-first F f none c v e = absurd (cons≢nil (sym e))
+blocks-first {r = r} F f (more i u z (block y k p) q) c v e =
+    ⊎-elim (λ h. f y c (h .0) p (sym (codes-block r y) ∙ h .1))
+    (λ h. let n : length (codes y) ≡ 0 = ap length (sym (codes-block r y) ∙ h .0) in absurd (omega arith))
+    (codes-begin (opening r ∷ (y ++ (closing r ∷ []))) z c v e)
+
+pub reading-first : (s : ℕ) (e : Expr) (x : List Item) (c : ℕ) (v : List ℕ) → Reading s e x → codes x ≡ c ∷ v → First e c
+reading-first s empty x c v nil e = absurd (cons≢nil (sym e))
+reading-first s (event d) x c v one e = sym (head-eq-of-cons-eq e)
+reading-first s (choice l r) x c v (left a) e = inl (reading-first s l x c v a e)
+reading-first s (choice l r) x c v (right a) e = inr (reading-first (s + size l) r x c v a e)
+reading-first s (sequence l r) x c v (cat y z a b) e =
+    ⊎-elim (λ h. inl (reading-first s l y c (h .0) a (h .1)))
+    (λ h. inr (no-codes-null s l y a (h .0), reading-first (s + size l) r z c v b (h .1))) (codes-begin y z c v e)
+reading-first s (repeat b lower upper) x c v (times j lo up p) e = blocks-first (First b) (reading-first s b) p c v e

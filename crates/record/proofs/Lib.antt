@@ -7,6 +7,10 @@ mod Bytes
 mod Empties
 mod Heads
 mod Laid
+mod LaidBlocks
+mod LaidStays
+mod Laying
+mod Lays
 mod Puts
 mod Reaches
 mod Standing
