@@ -1,7 +1,9 @@
 // What a part lays of a run: the items of its reading, one after the other. In an admitted procedure the next code says where to go.
 ghost use mathlib.Core.Bool.{So};
 ghost use mathlib.Core.Path.{_≡_};
-ghost use Rattle.procedure.specs.Entry.{held, kindOf};
+ghost use Rattle.meaning.specs.Expr.{Within};
+ghost use Rattle.meaning.specs.Node.{bound};
+ghost use Rattle.procedure.specs.Entry.{held, kindOf, unpacked, upperOf};
 ghost use Rattle.procedure.specs.Tests.{Decides};
 ghost use Rattle.record.specs.Lay.{Ends, LaysAt, NextIn, Onward, Ready, Room};
 use crate::items;
@@ -30,6 +32,16 @@ fn next_in(set: u64, run: &[u8], at: usize) -> bool
         return codes::has(set, wide(run[at]));
     }
     false
+}
+
+// Whether another block begins: the next code is in the set, and the repeat may have k blocks.
+fn another(set: u64, entry: u64, run: &[u8], at: usize, k: usize) -> bool
+    ensures { λ r. ⌜ Decides (NextIn set (now (run .entry)) at × Within k (bound (upperOf (unpacked entry)))) r ⌝ }
+{
+    if !next_in(set, run, at) {
+        return false;
+    }
+    walk::within(entry, k)
 }
 
 // Up to these places, where the walk may end there.
@@ -114,7 +126,7 @@ fn lay_blocks(
     let mut to = item;
     let mut k: usize = 0;
     loop {
-        if !(next_in(firsts[i], run, at) && walk::within(nodes[i], k + 1)) {
+        if !another(firsts[i], nodes[i], run, at, k + 1) {
             return to_if(walk::may_stop(nodes[i], nulls[i - 1], k), at, to);
         }
         items::put(space, to, i + items::OPENING);
