@@ -14,7 +14,7 @@ use Rattle.meaning.specs.Sets.{First}
 use Rattle.meaning.proofs.Facts.{append-cut, power-snoc, within-le}
 use Rattle.meaning.proofs.Items.{codes-append, codes-block, events-append}
 use Rattle.meaning.proofs.Unique.{Free}
-use Rattle.record.specs.Lay.{Parted, Rest, from, nowhere, Lays}
+use Rattle.record.specs.Lay.{Parted, from, nowhere, Lays}
 use Rattle.record.proofs.Blocks.{blockOf, by-block}
 use Rattle.record.proofs.Heads.{blocks-first, reading-first}
 use Rattle.record.proofs.Lays.{by-first, same-rest}

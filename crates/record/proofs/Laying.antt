@@ -1,6 +1,6 @@
 -- What the part at a node lays, from what its children lay: the laws of Lays at the nodes of a file. Assumes nothing.
 use mathlib.Core.Path.{_≡_, refl, sym, ap, subst, _∙_}
-use mathlib.Core.Logic.{_↔_, ⊎-elim}
+use mathlib.Core.Logic.{⊎-elim}
 use mathlib.Core.Bool.{Bool, true, false, So, false≢true}
 use mathlib.Core.List.{List, [], _∷_, _++_, map}
 use Prim.Native.Nat.{ℕ, zero, suc, _+_, _-_, _≤_, _<_}
@@ -9,9 +9,8 @@ use native.Mathlib.Omega.{arith}
 use lib.ListN.{length, drop, getD, length-append}
 use lib.Seq.{drop-cons}
 use Rattle.meaning.specs.Codes.{Has}
-use Rattle.meaning.specs.Expr.{Expr, empty, event, choice, sequence, size, root}
-use Rattle.meaning.specs.Node.{InOrder, Node, Stands}
-use Rattle.meaning.specs.Normal.{nullable}
+use Rattle.meaning.specs.Expr.{Expr, event, choice, sequence, size}
+use Rattle.meaning.specs.Node.{InOrder, Node}
 use Rattle.meaning.specs.Reading.{Item, place, Reading}
 use Rattle.meaning.specs.Record.{itemNumber}
 use Rattle.meaning.specs.Sets.{First}
