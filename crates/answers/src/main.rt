@@ -51,6 +51,24 @@ fn answer_follow(file: &mut [u8], state: &mut [u8], events: &mut [u8]) -> bool {
     print_end()
 }
 
+fn answer_write(file: &mut [u8], run: &mut [u8], space: &mut [u8]) -> bool {
+    let length = read_slice(file);
+    let events = read_slice(run);
+    let room = read_slice(space);
+    let mut bytes = WIDE_JUNK;
+    let answer = seqp::seq_write(
+        &file[..length],
+        &run[..events],
+        &mut space[..room],
+        &mut bytes,
+    );
+    io::write_all(STDOUT_FILENO, b"W");
+    print_number(answer as u64);
+    print_number(bytes);
+    print_bytes(space, room);
+    print_end()
+}
+
 fn answer_check(file: &mut [u8], bytes: &mut [u8]) -> bool {
     let length = read_slice(file);
     let count = read_slice(bytes);
@@ -80,6 +98,7 @@ fn answer_one(first: &mut [u8], second: &mut [u8], third: &mut [u8]) -> bool {
         b'F' => answer_follow(first, second, third),
         b'J' => answer_judge(first),
         b'P' => answer_prompt(first, second),
+        b'W' => answer_write(first, second, third),
         _ => false,
     }
 }

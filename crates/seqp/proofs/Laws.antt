@@ -8,14 +8,16 @@ use Rattle.meaning.specs.declared.JudgeAnswer.the-variants as judge
 use Rattle.meaning.specs.declared.CheckAnswer.{CheckAnswer}
 use Rattle.meaning.specs.declared.FollowAnswer.{FollowAnswer}
 use Rattle.meaning.specs.declared.PromptAnswer.{PromptAnswer}
-use Rattle.meaning.specs.Numbers.{JudgeNumbers, checked, checkNumbers, followNumbers, judged, judgeNumbers, promptNumbers, row, followed, prompted}
-use Rattle.meaning.specs.Promises.{Checks, CheckPromise, Follows, FollowPromise, Judges, JudgePromise, Prompts, PromptPromise}
+use Rattle.meaning.specs.Numbers.{checked, checkNumbers, followed, followNumbers, judged, JudgeNumbers, judgeNumbers, prompted, promptNumbers, row, writeNumbers, wrote}
+use Rattle.meaning.specs.Promises.{CheckPromise, Checks, FollowPromise, Follows, JudgePromise, Judges, PromptPromise, Prompts, WritePromise, Writes}
 use Rattle.meaning.proofs.Refusals.{barred-node-small}
 use Rattle.seqp.specs.declared.numbers.Row.{Row}
 use Rattle.seqp.specs.declared.numbers.CheckRow.{CheckRow}
 use Rattle.seqp.specs.declared.numbers.FollowRow.{FollowRow}
 use Rattle.seqp.specs.declared.numbers.PromptRow.{PromptRow}
-use Rattle.seqp.specs.Shown.{checkShown, followShown, promptShown, shown}
+use Rattle.seqp.specs.Shown.{checkShown, followShown, promptShown, shown, writeShown}
+use Rattle.meaning.specs.declared.WriteAnswer.{WriteAnswer}
+use Rattle.seqp.specs.declared.numbers.WriteRow.{WriteRow}
 
 -- the node that Judge reports is told whole
 node-small : (f : List ℕ) (a : JudgeAnswer) → Judges f a → judgeNumbers a .node < 512
@@ -41,6 +43,11 @@ pub follow-shown : (f state events after : List ℕ) (a : FollowAnswer) (out : F
     → out ≡ followShown (followNumbers a) → FollowPromise f state events (followed (out .answer) (out .taken) (out .verdict)) after
 unfolding FollowPromise
 follow-shown f state events after a out w e = (a, w, ap (λ (r : FollowRow). followed (r .answer) (r .taken) (r .verdict)) e)
+
+pub write-shown : (f run space after : List ℕ) (a : WriteAnswer) (out : WriteRow) → Writes f run space a after → out ≡ writeShown (writeNumbers a)
+    → WritePromise f run space (wrote (out .answer) (out .length)) after
+unfolding WritePromise
+write-shown f run space after a out w e = (a, w, ap (λ (r : WriteRow). wrote (r .answer) (r .length)) e)
 
 pub check-shown : (f bytes : List ℕ) (a : CheckAnswer) (out : CheckRow) → Checks f bytes a → out ≡ checkShown (checkNumbers a)
     → CheckPromise f bytes (checked (out .answer) (out .yes))

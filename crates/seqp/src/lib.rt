@@ -1,6 +1,6 @@
 // The calls for the station's shell, as C sees them. Each gives the request's answer number and always writes its results.
-ghost use Rattle.meaning.specs.Numbers.{checked, followed, judged, prompted};
-ghost use Rattle.meaning.specs.Promises.{CheckPromise, FollowPromise, JudgePromise, PromptPromise};
+ghost use Rattle.meaning.specs.Numbers.{checked, followed, judged, prompted, wrote};
+ghost use Rattle.meaning.specs.Promises.{CheckPromise, FollowPromise, JudgePromise, PromptPromise, WritePromise};
 
 mod numbers; // numbers.rt: an answer as the request's numbers
 
@@ -30,6 +30,16 @@ pub extern "C" fn seq_follow(
     let row = numbers::of_follow(follow::follow(file, state, events));
     *taken = row.taken;
     *verdict = row.verdict;
+    row.answer
+}
+
+// Write a record: 0 to 7 or 9 to 11; the length of the record in bytes, or 0.
+#[no_mangle]
+pub extern "C" fn seq_write(file: &[u8], run: &[u8], space: &mut [u8], length: &mut u64) -> u32
+    ensures { λ r. ⌜ WritePromise (now (file .entry)) (now (run .entry)) (now (space .entry)) (wrote r (now (length .exit))) (now (space .exit)) ⌝ }
+{
+    let row = numbers::of_write(record::write(file, run, space));
+    *length = row.length;
     row.answer
 }
 

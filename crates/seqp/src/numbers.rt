@@ -1,14 +1,15 @@
 // An answer as the request's numbers.
 ghost use mathlib.Core.Path.{_≡_};
 ghost use Prim.Native.Nat.{ℕ};
-ghost use Rattle.meaning.specs.Numbers.{checkNumbers, followNumbers, judged, judgeNumbers, promptNumbers, row, verdictNumber};
-ghost use Rattle.seqp.specs.Shown.{checkShown, followShown, promptShown, shown};
+ghost use Rattle.meaning.specs.Numbers.{checkNumbers, followNumbers, judged, judgeNumbers, promptNumbers, row, verdictNumber, writeNumbers};
+ghost use Rattle.seqp.specs.Shown.{checkShown, followShown, promptShown, shown, writeShown};
 use meaning::CheckAnswer;
 use meaning::FollowAnswer;
 use meaning::JudgeAnswer;
 use meaning::PromptAnswer;
 use meaning::Refusal;
 use meaning::Verdict;
+use meaning::WriteAnswer;
 
 // The numbers of an answer, as C gets them.
 pub struct Row {
@@ -99,6 +100,30 @@ pub fn of_follow(answer: FollowAnswer) -> FollowRow
                 answer: row.answer,
                 taken: 0,
                 verdict: 0,
+            }
+        }
+    }
+}
+
+// What Write gives.
+pub struct WriteRow {
+    pub answer: u32,
+    pub length: u64,
+}
+
+pub fn of_write(answer: WriteAnswer) -> WriteRow
+    ensures { λ r. ⌜ r ≡ writeShown (writeNumbers answer) ⌝ }
+{
+    match answer {
+        WriteAnswer::Written(length) => WriteRow {
+            answer: 0,
+            length: length,
+        },
+        WriteAnswer::Refused(refusal) => {
+            let row = row_of(refusal);
+            WriteRow {
+                answer: row.answer,
+                length: 0,
             }
         }
     }

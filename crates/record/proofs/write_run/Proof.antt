@@ -36,7 +36,7 @@ ready m =
     walk-ready (begun (measured m) .pre .1) _ _ (m .before .before .before .before .before .nulls-of .ensures) (m .before .before .before .firsts-of .ensures)
 
 returns : tie.Need-returns
-returns c = let a = c .before .before .before in λ f o. writes-too-long o (a .args .run .now) (a .args .space .now) (c .if1 .taken)
+returns c = let a = c .before .before .before in λ f o. writes-too-long o (a .args .run .now) (a .args .space .now) (omega (arith, c .if1 .taken))
 
 nulls-of-requires : tie.Need-nulls-of-requires
 nulls-of-requires c κs = let o = begun c .pre .1 in (counted o .1, ordered o)
@@ -107,7 +107,7 @@ returns-4 c =
     let d = c .before in
     let m = before d in
     λ f o. writes-no-room o (run m) (short m) _ _ (first d .lay .result) (events d) (items d) (first d .lay .ensures .1) (told d .events .given .1) (d .if2 .left)
-    (space m) (c .if3 .taken)
+    (space m) (omega (arith, c .if3 .taken))
 
 sub-lay-2 : tie.Need-sub-lay-2
 sub-lay-2 c = counted (begun (before (c .before .before .before .before)) .pre .1) .0
@@ -128,7 +128,7 @@ returns-5 c =
     let d = e .before in
     let m = before d in
     λ f o. writes-all o (run m) (short m) _ _ (first d .lay .result) (events d) (items d) (first d .lay .ensures .1) (told d .events .given .1) (d .if2 .left)
-    (space m) _ (second .lay2 .result) (e .if3 .left) (second .lay2 .ensures .1) (second .lay2 .ensures .0)
+    (space m) _ (second .lay2 .result) (omega (arith, e .if3 .left)) (second .lay2 .ensures .1) (second .lay2 .ensures .0)
 
 pub write-run-spec : {M : Type 1} → statement M
 write-run-spec =

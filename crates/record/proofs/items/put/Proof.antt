@@ -1,5 +1,4 @@
 -- `record::items::put` meets its contract. Assumes nothing.
-use Prim.Native.Nat.{_%_}
 use native.Mathlib.Omega.{arith}
 use borrow.Author.Needs.{needs}
 use Rattle.record.proofs.Puts.{fits-still, put-fits, put-past}
@@ -22,7 +21,7 @@ cast-space-2 : tie.Need-cast-space-2
 cast-space-2 c = search needs
 
 slice-write-space-2 : tie.Need-slice-write-space-2
-slice-write-space-2 c = let a = c .before .args in fits-still (a .space .now) (a .at) (a .item % 256) (omega arith)
+slice-write-space-2 c = let a = c .before .args in fits-still (a .space .now) (a .at) _ (omega arith)
 
 same-length : tie.Need-same-length
 same-length c = search needs
