@@ -26,7 +26,7 @@ use Rattle.plan.specs.Plan.{Plans, emptyAt, bit}
 use Rattle.steps.specs.Counts.{Marked, Unmarked}
 use Rattle.steps.specs.Step.{Stepped, steps, Started, starts, Ended, ended, open-yet}
 use Rattle.steps.specs.Step as step
-use Rattle.follow.specs.Valid.{AtSpot}
+use Rattle.states.specs.Valid.{AtSpot}
 use Rattle.follow.specs.Run.{Found, Tried, leads, Nexted, goes, RanTo}
 use Rattle.follow.specs.Run as run
 

@@ -1,30 +1,18 @@
 -- What a batch of events promises, from the expression of an admitted file. A model of our code: the promise is the meaning's.
 use mathlib.Core.Path.{_≡_}
 use mathlib.Core.List.{List}
-use Prim.Native.Nat.{ℕ, _≤_}
+use Prim.Native.Nat.{ℕ}
 use lib.ListN.{length}
 use Rattle.meaning.specs.declared.Refusal.the-variants.{Unreached}
 use Rattle.meaning.specs.declared.Verdict.{Verdict}
 use Rattle.meaning.specs.declared.FollowAnswer.{FollowAnswer}
 use Rattle.meaning.specs.declared.FollowAnswer.the-variants as follow
-use Rattle.meaning.specs.Expr.{Expr, size, Bounded}
-use Rattle.meaning.specs.Node.{Stands, repeatsBelow}
+use Rattle.meaning.specs.Expr.{Expr}
 use Rattle.meaning.specs.State.{stateBytes}
 use Rattle.meaning.specs.Promises.{NoneReaches}
 use Rattle.meaning.proofs.Spots.{Spot, Safe}
 use Rattle.meaning.proofs.Runs.{spotState}
 use Rattle.meaning.proofs.Follows.{Going, VerdictAt}
-use Rattle.procedure.specs.Entry.{held}
-use Rattle.follow.specs.Valid.{Small}
-
--- the first n entries hold the expression, whose counters fit in two bytes
-pub record Ready (nodes : List ℕ) (n : ℕ) (e : Expr) : Type 0 where
-  pub stands : Stands (held nodes) 0 e
-  pub sized : size e ≡ n
-  pub few : n ≤ 512
-  pub some : repeatsBelow (held nodes) n ≤ 32
-  pub bounded : Bounded e
-  pub small : Small e
 
 -- from the bytes of a spot's state to those of the spot where the run then stands; the state is left where no run reaches it
 pub data Went (e : Expr) (state events : List ℕ) : FollowAnswer → List ℕ → Type 0 where

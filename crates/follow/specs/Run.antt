@@ -9,7 +9,7 @@ use Rattle.meaning.proofs.Place.{Place}
 use Rattle.meaning.proofs.Spots.{Spot, behind}
 use Rattle.meaning.proofs.Runs.{LeadsTo, NoWay}
 use Rattle.meaning.proofs.Follows.{Going}
-use Rattle.follow.specs.Valid.{AtSpot}
+use Rattle.states.specs.Valid.{AtSpot}
 
 -- r is the lowest number from `from` on whose entry is the one wanted, or n where there is none below n
 pub record Found (nodes : List ℕ) (n from wanted r : ℕ) : Type 0 where

@@ -1,12 +1,13 @@
 // A batch of events: from the state given to the state after those taken.
 ghost use Rattle.meaning.specs.Expr.{Expr};
-ghost use Rattle.follow.specs.Batch.{Ready, Went};
+ghost use Rattle.states.specs.Ready.{Ready};
+ghost use Rattle.follow.specs.Batch.{Went};
 use crate::run;
-use crate::state;
-use crate::valid;
 use meaning::FollowAnswer;
 use meaning::Refusal;
 use plan::fill;
+use states::bytes;
+use states::valid;
 
 // The answer for the n nodes of an admitted file.
 pub fn go_on(nodes: &[u64; 512], n: usize, bytes: &mut [u8], events: &[u8]) -> FollowAnswer
@@ -23,7 +24,7 @@ pub fn go_on(nodes: &[u64; 512], n: usize, bytes: &mut [u8], events: &[u8]) -> F
             let at = ran.node;
             let taken = ran.taken;
             let stands = run::verdict(nodes, &table, n, at, &counts, taken, events.len());
-            state::encode(at, &counts, bytes);
+            bytes::encode(at, &counts, bytes);
             FollowAnswer::Followed(taken as u64, stands)
         }
     }

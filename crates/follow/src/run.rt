@@ -8,7 +8,7 @@ ghost use Rattle.meaning.proofs.Follows.{VerdictAt};
 ghost use Rattle.procedure.specs.Entry.{held, kindOf};
 ghost use Rattle.procedure.specs.Tests.{Decides};
 ghost use Rattle.plan.specs.Plan.{Plans};
-ghost use Rattle.follow.specs.Valid.{AtSpot};
+ghost use Rattle.states.specs.Valid.{AtSpot};
 ghost use Rattle.follow.specs.Run.{Found, Tried, Nexted, RanTo};
 use meaning::Verdict;
 use plan::table;

@@ -58,7 +58,7 @@ pub extern "C" fn seq_check(file: &[u8], bytes: &[u8], yes: &mut u32) -> u32
 pub extern "C" fn seq_prompt(file: &[u8], state: &[u8], set: &mut u64) -> u32
     ensures { λ r. ⌜ PromptPromise (now (file .entry)) (now (state .entry)) (prompted r (now (set .exit))) ⌝ }
 {
-    let row = numbers::of_prompt(follow::prompt(file, state));
+    let row = numbers::of_prompt(prompt::prompt(file, state));
     *set = row.set;
     row.answer
 }

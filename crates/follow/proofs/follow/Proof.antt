@@ -1,6 +1,7 @@
 -- `follow::follow` meets its contract. Assumes nothing.
 use borrow.Author.Needs.{needs}
-use Rattle.follow.proofs.Following.{follows-barred, admitted-ready, follows-admitted}
+use Rattle.states.proofs.Readiness.{admitted-ready}
+use Rattle.follow.proofs.Following.{follows-barred, follows-admitted}
 use Rattle.follow.proofs.follow.Statement.{statement}
 use Rattle.follow.proofs.follow.Tie as tie
 

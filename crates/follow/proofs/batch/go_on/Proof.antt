@@ -5,9 +5,10 @@ use native.Mathlib.Omega.{arith}
 use borrow.Author.Needs.{needs}
 use Rattle.meaning.specs.Expr.{Expr}
 use Rattle.plan.specs.Plan.{Plans}
-use Rattle.follow.specs.Valid.{ReadOf}
-use Rattle.follow.specs.Batch.{Ready}
-use Rattle.follow.proofs.Following.{read-below, read-long, ran-long, went-nowhere, went-on}
+use Rattle.states.specs.Valid.{ReadOf}
+use Rattle.states.specs.Ready.{Ready}
+use Rattle.states.proofs.Readiness.{read-below, read-long}
+use Rattle.follow.proofs.Following.{ran-long, went-nowhere, went-on}
 use Rattle.follow.proofs.batch.go_on.Statement.{statement}
 use Rattle.follow.proofs.batch.go_on.Tie as tie
 

@@ -9,7 +9,7 @@ use lib.ListN.{getD}
 use Rattle.meaning.specs.Expr.{Expr}
 use Rattle.meaning.proofs.Spots.{Spot}
 use Rattle.plan.specs.Plan.{Plans}
-use Rattle.follow.specs.Valid.{AtSpot}
+use Rattle.states.specs.Valid.{AtSpot}
 use Rattle.follow.proofs.Running.{Passed, passed-none, passed-more, nexted-goes, nexted-stays, wanted-kind}
 use Rattle.follow.proofs.run.next.Statement.{statement}
 use Rattle.follow.proofs.run.next.Tie as tie

@@ -8,7 +8,7 @@ use lib.ListN.{length}
 use Rattle.meaning.specs.Expr.{Expr}
 use Rattle.meaning.proofs.Spots.{Spot}
 use Rattle.plan.specs.Plan.{Plans}
-use Rattle.follow.specs.Valid.{AtSpot}
+use Rattle.states.specs.Valid.{AtSpot}
 use Rattle.follow.proofs.Running.{Along, along-none, along-more, ran-stuck, ran-all}
 use Rattle.follow.proofs.run.run.Statement.{statement}
 use Rattle.follow.proofs.run.run.Tie as tie

@@ -1,0 +1,77 @@
+-- `prompt::light::light` meets its contract. Assumes nothing.
+use mathlib.Core.List.{List}
+use Prim.Native.Nat.{ℕ}
+use borrow.Author.Needs.{needs}
+use Rattle.meaning.specs.Expr.{Expr}
+use Rattle.plan.specs.Plan.{Plans}
+use Rattle.states.specs.Valid.{ReadOf}
+use Rattle.states.specs.Ready.{Ready}
+use Rattle.states.proofs.Readiness.{read-below}
+use Rattle.prompt.proofs.Prompting.{read-event, prompts-unreached, prompts-lit}
+use Rattle.prompt.proofs.light.light.Statement.{statement}
+use Rattle.prompt.proofs.light.light.Tie as tie
+
+fill-plan-requires : tie.Need-fill-plan-requires
+fill-plan-requires c κs = search needs
+
+read-state-requires : tie.Need-read-state-requires
+read-state-requires c κs =
+    let fill = c .before .before in
+    let ready = fill .before .before .before .pre .0 in
+    ((ready .0, fill .fill-plan .ensures (ready .0) (ready .1 .stands) (ready .1 .sized)), search needs)
+
+-- ---- what is known once the state is read
+
+abbrev begun : tie.After-read-state → tie.Start
+begun r = r .before .before .before .before .before .before
+
+abbrev nodes : tie.After-read-state → List ℕ
+nodes r = begun r .args .nodes .now
+
+abbrev bytes : tie.After-read-state → List ℕ
+bytes r = begun r .args .bytes .now
+
+abbrev table : tie.After-read-state → List ℕ
+table r = r .before .before .before .fill-plan .last .1 .0
+
+abbrev counts : tie.After-read-state → List ℕ
+counts r = r .read-state .last .1 .1 .1 .1 .0
+
+planned : (r : tie.After-read-state) (e : Expr) → Ready (nodes r) (begun r .args .n) e → Plans (nodes r) (table r) (begun r .args .n) e
+planned r e w = r .before .before .before .fill-plan .ensures e (w .stands) (w .sized)
+
+told : (r : tie.After-read-state) (e : Expr) → Ready (nodes r) (begun r .args .n) e → ReadOf e (bytes r) (counts r) (r .read-state .result)
+told r e w = r .read-state .ensures e (planned r e w) (w .bounded) (w .small)
+
+enum-told : tie.Need-enum-told
+enum-told c = search needs
+
+enum-known-node : tie.Need-enum-known-node
+enum-known-node c = search needs
+
+lit-requires : tie.Need-lit-requires
+lit-requires c κs =
+    let node = c .before .before in
+    let r = node .before .before in
+    let pre = begun r .pre in
+    let e = pre .0 .0 in
+    let ready = pre .0 .1 in
+    let came = told r e ready in (
+      read-below e (bytes r) (counts r) _ _ _ (ready .sized) came (node .node .given .1),
+      (read-event e (bytes r) (counts r) _ _ ready came (node .node .given .1), (pre .1, (e, planned r e ready))),
+    )
+
+returns : tie.Need-returns
+returns c = let r = c .before .before in λ f e a w. prompts-unreached f (bytes r) (counts r) e _ a (told r e w) (c .enum-told .given .1)
+
+returns-2 : tie.Need-returns-2
+returns-2 c =
+    let node = c .before .before .before in
+    let r = node .before .before in
+    λ f e a w.
+    prompts-lit f (bytes r) (counts r) e _ _ (c .lit .result) a w (planned r e w) (told r e w) (node .node .given .1) (c .lit .ok) (c .lit .ensures)
+
+pub light-spec : {M : Type 1} → statement M
+light-spec =
+    tie.close
+    (tie.spec fill-plan-requires read-state-requires enum-told enum-known-node lit-requires returns returns-2)

@@ -1,0 +1,2 @@
+-- What the contracts of the prompt cite.
+pub mod Near

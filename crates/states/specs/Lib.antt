@@ -1,0 +1,4 @@
+-- What the contracts of a state cite.
+pub mod Ready
+pub mod StateBytes
+pub mod Valid
