@@ -80,7 +80,7 @@ item-unique e l (closing r) (opening q) x y h = absurd (omega arith)
 item-unique e l (closing r) (closing q) x y h = let same : r ≡ q = omega arith in cc
 
 -- every item's number fits in two bytes
-names-narrow : (e : Expr) → size e ≤ 512 → (x : List Item) → AllName 0 e x → Narrow (map itemNumber x)
+pub names-narrow : (e : Expr) → size e ≤ 512 → (x : List Item) → AllName 0 e x → Narrow (map itemNumber x)
 names-narrow e l [] a = tt
 names-narrow e l (place i c ∷ x) a = (omega (arith, part-within 0 e i (event c) (a .0)), names-narrow e l x (a .1))
 names-narrow e l (opening r ∷ x) a = (omega (arith, a .0), names-narrow e l x (a .1))

@@ -1,7 +1,7 @@
 -- From what a walk over the root takes to the answer of Check. Assumes nothing.
 use mathlib.Core.Path.{_≡_, sym, ap, subst, _∙_}
 use mathlib.Core.Bool.{Bool, true, false}
-use mathlib.Core.List.{List, [], _∷_, _++_, map, append-nil}
+use mathlib.Core.List.{List, [], _++_, map, append-nil}
 use Prim.Native.Nat.{ℕ, suc, _-_, _/_, _%_, _≤_, _<_}
 use native.Mathlib.Omega.{arith}
 use lib.ListN.{length, drop, getD, length-drop}
@@ -9,14 +9,13 @@ use lib.Seq.{drop-length}
 use Rattle.meaning.specs.declared.CheckAnswer.the-variants as answer
 use Rattle.meaning.specs.declared.Refusal.{Refusal}
 use Rattle.meaning.specs.Bytes.{inTwos}
-use Rattle.meaning.specs.Expr.{Expr, event, size, root}
+use Rattle.meaning.specs.Expr.{Expr, size, root}
 use Rattle.meaning.specs.Node.{Node}
 use Rattle.meaning.specs.Promises.{Checks}
-use Rattle.meaning.specs.Reading.{Item, place, opening, closing, Reading}
+use Rattle.meaning.specs.Reading.{Item, Reading}
 use Rattle.meaning.specs.Record.{itemNumber, recordBytes}
 use Rattle.meaning.proofs.Files.{root-size}
-use Rattle.meaning.proofs.Parts.{part-within}
-use Rattle.meaning.proofs.Records.{AllName, reading-names}
+use Rattle.meaning.proofs.Records.{names-narrow, reading-names}
 use Rattle.procedure.specs.declared.Opened.{Opened}
 use Rattle.procedure.specs.declared.Opened.the-variants as opened
 use Rattle.procedure.specs.Entry.{held}
@@ -25,22 +24,17 @@ use Rattle.procedure.specs.Parts.{Begins, OrderedBelow}
 use Rattle.procedure.proofs.Nodes.{nodes-counted, nodes-listed}
 use Rattle.record.specs.declared.walk.Taken.the-variants.{To, Stuck}
 use Rattle.record.specs.Walk.{itemsIn, from, nowhere, TakesAt, Nulls, Ready, RecordOf}
-use Rattle.record.proofs.Bytes.{AllBelow, items-length, items-of-twos, twos-length, twos-of-items}
+use Rattle.meaning.proofs.Twos.{twos-length}
+use Rattle.record.proofs.Bytes.{items-length, items-of-twos, twos-of-items}
 use Rattle.record.proofs.Empties.{nulls-fewer}
 use Rattle.procedure.proofs.Standing.{inner-order}
 
 -- ---- the numbers of a reading's record
 
--- items that name nodes of the expression have numbers of two bytes
-named-small : (e : Expr) → size e ≤ 512 → (x : List Item) → AllName 0 e x → AllBelow 65536 (map itemNumber x)
-named-small e l [] a = tt
-named-small e l (place i c ∷ x) a = (omega (arith, part-within 0 e i (event c) (a .0)), named-small e l x (a .1))
-named-small e l (opening r ∷ x) a = (omega (arith, a .0), named-small e l x (a .1))
-named-small e l (closing r ∷ x) a = (omega (arith, a .0), named-small e l x (a .1))
-
+-- the bytes of a reading's record hold the numbers of its items
 numbers-back : (e : Expr) → size e ≤ 512 → (x : List Item) → Reading 0 e x → (b : List ℕ) → b ≡ recordBytes x → itemsIn b ≡ map itemNumber x ++ []
 numbers-back e l x p b h =
-    ap itemsIn h ∙ items-of-twos (map itemNumber x) (named-small e l x (reading-names 0 e x p)) ∙ sym (append-nil (map itemNumber x))
+    ap itemsIn h ∙ items-of-twos (map itemNumber x) (names-narrow e l x (reading-names 0 e x p)) ∙ sym (append-nil (map itemNumber x))
 
 -- ---- what the walk says of the record
 

@@ -6,6 +6,7 @@ use native.Mathlib.Omega.{arith}
 use lib.ListN.{length, drop, getD, List·getD-eq-default}
 use native.Mathlib.Numerals.{add-one}
 use Rattle.meaning.specs.Bytes.{inTwos}
+use Rattle.meaning.proofs.Twos.{Narrow}
 use Rattle.record.specs.Walk.{itemsIn, noItem, Inside, Outside}
 
 pub items-length : (b : List ℕ) → length (itemsIn b) ≡ length b / 2
@@ -28,15 +29,7 @@ item-past b k h = List·getD-eq-default (itemsIn b) noItem (omega (arith, items-
 
 -- ---- from items to bytes and back
 
-abbrev pub AllBelow : ℕ → List ℕ → Type 0
-AllBelow n [] = Unit {0}
-AllBelow n (a ∷ w) = (a < n) × AllBelow n w
-
-pub twos-length : (w : List ℕ) → length (inTwos w) ≡ 2 * length w
-twos-length [] = refl
-twos-length (n ∷ w) = omega (arith, twos-length w)
-
-pub items-of-twos : (w : List ℕ) → AllBelow 65536 w → itemsIn (inTwos w) ≡ w
+pub items-of-twos : (w : List ℕ) → Narrow w → itemsIn (inTwos w) ≡ w
 items-of-twos [] h = refl
 items-of-twos (n ∷ w) h =
     let e = items-of-twos w (h .1) in

@@ -1,19 +1,12 @@
--- The laws that belong to no one function.
-mod Answers
-mod Beginnings
-mod Blocks
-mod Bounds
+-- The laws that belong to no one function: those of parts, blocks and items for whoever walks over a procedure, the others for the proofs
+-- of this crate.
+pub mod Answers
+pub mod Blocks
+pub mod Bounds
 mod Bytes
-mod Empties
-mod Heads
-mod Laid
-mod LaidBlocks
-mod LaidStays
-mod Laying
-mod Lays
-mod Puts
-mod Reaches
+pub mod Empties
+pub mod Heads
+pub mod Puts
 mod Stays
 mod Takes
-mod Walks
-mod Writing
+pub mod Walks

@@ -8,7 +8,7 @@ use native.Mathlib.Omega.{arith}
 use borrow.Author.Tests.{lt-ltb, le-ltb}
 use lib.ListN.{length, drop, set, length-append, length-set}
 use Rattle.meaning.specs.Bytes.{inTwos}
-use Rattle.record.specs.Lay.{putAt, puts}
+use Rattle.record.specs.Put.{putAt, puts}
 
 -- the two bytes of an item in the space
 abbrev twoAt : List ℕ → ℕ → ℕ → List ℕ

@@ -1,3 +1,3 @@
 -- What the contracts on records cite.
-pub mod Lay
+pub mod Put
 pub mod Walk

@@ -3,7 +3,7 @@ ghost use mathlib.Core.Path.{_≡_};
 ghost use Prim.Native.Nat.{_<_};
 ghost use lib.ListN.{getD};
 ghost use Rattle.procedure.specs.Tests.{Decides};
-ghost use Rattle.record.specs.Lay.{putAt};
+ghost use Rattle.record.specs.Put.{putAt};
 ghost use Rattle.record.specs.Walk.{Inside, itemsIn, noItem};
 
 // An item is its node, plus this for each mark.

@@ -1,5 +1,4 @@
 // Which parts have the empty word, worked out once from the lowest node up.
-ghost use mathlib.Core.Path.{_≡_};
 ghost use Prim.Native.Nat.{_≤_, _<_};
 ghost use Rattle.meaning.specs.Node.{InOrder};
 ghost use Rattle.procedure.specs.Entry.{held};

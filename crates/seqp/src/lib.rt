@@ -38,7 +38,7 @@ pub extern "C" fn seq_follow(
 pub extern "C" fn seq_write(file: &[u8], run: &[u8], space: &mut [u8], length: &mut u64) -> u32
     ensures { λ r. ⌜ WritePromise (now (file .entry)) (now (run .entry)) (now (space .entry)) (wrote r (now (length .exit))) (now (space .exit)) ⌝ }
 {
-    let row = numbers::of_write(record::write(file, run, space));
+    let row = numbers::of_write(write::write(file, run, space));
     *length = row.length;
     row.answer
 }

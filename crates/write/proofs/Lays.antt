@@ -1,0 +1,158 @@
+-- What a part lays of the codes of a run: the laws of Lays for a part that is passed by, an event, a choice and a sequence. Without
+-- a conflict the next code says which side it belongs to. Assumes nothing.
+use mathlib.Core.Path.{_≡_, refl, sym, ap, subst, _∙_}
+use mathlib.Core.Logic.{inl, inr}
+use mathlib.Core.Bool.{So}
+use mathlib.Core.List.{List, [], _∷_, _++_, append-nil, head-eq-of-cons-eq, tail-eq-of-cons-eq}
+use Prim.Native.Nat.{ℕ, _+_, _≤_}
+use native.Mathlib.Omega.{arith}
+use lib.ListN.{length}
+use Rattle.meaning.specs.Expr.{Expr, event, choice, sequence, size}
+use Rattle.meaning.specs.Lists.{one, One, Or, left, right, Cat, cat}
+use Rattle.meaning.specs.Normal.{nullable}
+use Rattle.meaning.specs.Reading.{Item, place, codes, Reading}
+use Rattle.meaning.specs.Sets.{First, After}
+use Rattle.meaning.proofs.Facts.{append-cut}
+use Rattle.meaning.proofs.Items.{codes-append, events-append, no-event-append}
+use Rattle.meaning.proofs.Unique.{Free}
+use Rattle.write.specs.Lay.{Parted, Rest, from, nowhere, Eaten, Lays}
+use Rattle.record.proofs.Heads.{empty-reading, reading-first, no-codes, no-codes-null}
+
+-- codes are none, or begin with one
+pub by-first : {C : Type 0} (w : List ℕ) → (w ≡ [] → C) → ((c : ℕ) (u : List ℕ) → w ≡ c ∷ u → C) → C
+by-first [] a b = a refl
+by-first (c ∷ u) a b = b c u refl
+
+pub same-rest : (x y : List Item) (v t : List ℕ) → x ≡ y → v ≡ t → from x v ≡ from y t
+same-rest x y v t h k = λ i. from (h i) (k i)
+
+-- what does not continue a part does not continue one with less in first and in after
+pub parted-less : (e f : Expr) (x y : List Item) (t : List ℕ) → ((c : ℕ) → First e c → First f c) → ((c : ℕ) → After e c → After f c)
+    → codes y ≡ codes x → Parted f y t → Parted e x t
+parted-less e f x y [] a b q h = tt
+parted-less e f x y (c ∷ t) a b q h =
+    (λ n k. h .0 (q ∙ n) (a c k), λ l k. h .1 (subst (λ (z : List ℕ). 1 ≤ length z) (sym q) l) (b c k))
+
+-- ---- a part that is passed by
+
+-- the codes do not begin with one of first
+abbrev pub Unbegun : Expr → List ℕ → Type 0
+Unbegun e [] = Unit {0}
+Unbegun e (c ∷ w) = ¬ First e c
+
+module _ (s : ℕ) (e : Expr) (w : List ℕ) (o : Unbegun e w) where
+  only-empty : (x : List Item) (t : List ℕ) → Reading s e x → w ≡ codes x ++ t → x ≡ []
+  only-empty x t p k =
+      by-first (codes x) (no-codes s e x p)
+      (λ c u h. absurd (subst (Unbegun e) (k ∙ ap (λ (z : List ℕ). z ++ t) h) o (reading-first s e x c u p h)))
+
+  pub lays-nothing : So (nullable e) → Lays (Reading s e) e w (from [] w)
+  lays-nothing null = record {
+    eaten = (empty-reading s e null, refl);
+    only = λ x t p k h. let n = only-empty x t p k in same-rest [] x w t (sym n) (k ∙ ap (λ (z : List Item). codes z ++ t) n);
+  }
+
+  pub lays-nowhere : ¬ So (nullable e) → Lays (Reading s e) e w nowhere
+  lays-nowhere null = record {
+    eaten = tt;
+    only = λ x t p k h. absurd (null (no-codes-null s e x p (ap codes (only-empty x t p k))));
+  }
+
+-- ---- an event
+
+pub lays-event : (s c d : ℕ) (u : List ℕ) → First (event c) d → Lays (Reading s (event c)) (event c) (d ∷ u) (from (place s c ∷ []) u)
+lays-event s c d u f = record { eaten = (one, ap {B = List ℕ} (λ k. k ∷ u) f); only = go }
+  where
+    go : (x : List Item) (t : List ℕ) → One (place s c) x → _≡_ {A = List ℕ} (d ∷ u) (codes x ++ t) → Parted (event c) x t → from (place s c ∷ []) u ≡ from x t
+    go x t one k h = same-rest (place s c ∷ []) (place s c ∷ []) u t refl (tail-eq-of-cons-eq k)
+
+-- ---- a choice
+
+-- the code is in first of the whole, and not in that of the side
+wrong-side : (s : ℕ) (side whole : Expr) (c : ℕ) (u : List ℕ) → First whole c → ¬ First side c
+    → (x : List Item) (t : List ℕ) → Reading s side x → _≡_ {A = List ℕ} (c ∷ u) (codes x ++ t) → Parted whole x t → ⊥
+wrong-side s side whole c u f out x t p k h =
+    by-first (codes x)
+    (λ n. let e : c ∷ u ≡ t = k ∙ ap (λ (z : List ℕ). z ++ t) n in subst (Parted whole x) (sym e) h .0 n f)
+    (λ d v n. let e : _≡_ {A = List ℕ} (c ∷ u) (d ∷ (v ++ t)) = k ∙ ap (λ (z : List ℕ). z ++ t) n in
+    out (subst (First side) (sym (head-eq-of-cons-eq e)) (reading-first s side x d v p n)))
+
+eaten-map : {P Q : List Item → Type 0} (f : (x : List Item) → P x → Q x) (w : List ℕ) (r : Rest) → Eaten P w r → Eaten Q w r
+eaten-map f w (from x v) a = (f x (a .0), a .1)
+eaten-map f w nowhere a = tt
+
+module _ (s : ℕ) (l r : Expr) (c : ℕ) (u : List ℕ) (q : Rest) where
+  pub choice-left : Free (choice l r) → First l c → Lays (Reading s l) l (c ∷ u) q → Lays (Reading s (choice l r)) (choice l r) (c ∷ u) q
+  choice-left free f a = record { eaten = eaten-map (λ x. left) (c ∷ u) q (a .eaten); only = go }
+    where
+      go : (x : List Item) (t : List ℕ) → Or (Reading s l) (Reading (s + size l) r) x → _≡_ {A = List ℕ} (c ∷ u) (codes x ++ t)
+          → Parted (choice l r) x t → q ≡ from x t
+      go x t (left p) k h = a .only x t p k (parted-less l (choice l r) x x t (λ d. inl) (λ d. inl) refl h)
+      go x t (right p) k h = absurd (wrong-side (s + size l) r (choice l r) c u (inl f) (λ g. free .2 1 c (refl, f, g)) x t p k h)
+
+  pub choice-right : First r c → ¬ First l c → Lays (Reading (s + size l) r) r (c ∷ u) q → Lays (Reading s (choice l r)) (choice l r) (c ∷ u) q
+  choice-right f out a = record { eaten = eaten-map (λ x. right) (c ∷ u) q (a .eaten); only = go }
+    where
+      go : (x : List Item) (t : List ℕ) → Or (Reading s l) (Reading (s + size l) r) x → _≡_ {A = List ℕ} (c ∷ u) (codes x ++ t)
+          → Parted (choice l r) x t → q ≡ from x t
+      go x t (left p) k h = absurd (wrong-side s l (choice l r) c u (inr f) out x t p k h)
+      go x t (right p) k h = a .only x t p k (parted-less r (choice l r) x x t (λ d. inr) (λ d. inr) refl h)
+
+-- ---- a sequence
+
+-- the items of the left stand before what the right lays
+abbrev pub onto : List Item → Rest → Rest
+onto x (from y v) = from (x ++ y) v
+onto x nowhere = nowhere
+
+module _ (s : ℕ) (l r : Expr) (free : Free (sequence l r)) where
+  -- a reading of the sequence, and what comes next
+  module _ (y z : List Item) (p : Reading s l y) (q : Reading (s + size l) r z) where
+    parted-left : (t : List ℕ) → Parted (sequence l r) (y ++ z) t → Parted l y (codes z ++ t)
+    parted-left t h =
+        by-first (codes z)
+        (λ n. subst (Parted l y) (sym (ap (λ (k : List ℕ). k ++ t) n))
+        (parted-less l (sequence l r) y (y ++ z) t (λ c. inl) (λ c a. inr (no-codes-null (s + size l) r z q n, inl a))
+        (codes-append y z ∙ ap (λ (k : List ℕ). codes y ++ k) n ∙ append-nil (codes y)) h))
+        (λ c u n.
+        let f = reading-first (s + size l) r z c u q n in
+        subst (Parted l y) (sym (ap (λ (k : List ℕ). k ++ t) n))
+        (λ m g. free .2 2 c (inl (refl, no-codes-null s l y p m, g, f)), λ m g. free .2 3 c (inr (refl, g, f))))
+
+    parted-right : (t : List ℕ) → Parted (sequence l r) (y ++ z) t → Parted r z t
+    parted-right [] h = tt
+    parted-right (c ∷ t) h = (
+      λ n f. by-first (codes y) (λ m. h .0 (no-event-append y z m n) (inr (no-codes-null s l y p m, f)))
+          (λ d u m.
+          let k : length (codes y) ≡ length (d ∷ u) = ap length m in
+          h .1 (omega (arith, events-append y z)) (inr (no-codes-null (s + size l) r z q n, inr ((d, reading-first s l y d u p m), f)))),
+      λ m a. h .1 (omega (arith, events-append y z)) (inl a),
+    )
+
+  pub sequence-both : (w v : List ℕ) (x : List Item) (q : Rest) → Lays (Reading s l) l w (from x v) → Lays (Reading (s + size l) r) r v q
+      → Lays (Reading s (sequence l r)) (sequence l r) w (onto x q)
+  sequence-both w v x q a b = record { eaten = both q (b .eaten); only = go }
+    where
+      both : (q : Rest) → Eaten (Reading (s + size l) r) v q → Eaten (Reading s (sequence l r)) w (onto x q)
+      both (from y u) k =
+          (cat x y (a .eaten .0) (k .0), a .eaten .1 ∙ ap (λ (z : List ℕ). codes x ++ z) (k .1) ∙ sym (append-cut (codes (x ++ y)) (codes x) (codes y) u (codes-append x y)))
+      both nowhere k = tt
+
+      go : (j : List Item) (t : List ℕ) → Cat (Reading s l) (Reading (s + size l) r) j → w ≡ codes j ++ t → Parted (sequence l r) j t → onto x q ≡ from j t
+      go j t (cat y z p g) k h =
+          let m : from x v ≡ from y (codes z ++ t) =
+          a .only y (codes z ++ t) p (k ∙ append-cut (codes (y ++ z)) (codes y) (codes z) t (codes-append y z)) (parted-left y z p g t h) in
+          let same : x ≡ y = cc in
+          let rest : v ≡ codes z ++ t = cc in
+          let n : q ≡ from z t = b .only z t g rest (parted-right y z p g t h) in
+          λ i. onto (same i) (n i)
+
+  pub sequence-nowhere : (w : List ℕ) → Lays (Reading s l) l w nowhere → Lays (Reading s (sequence l r)) (sequence l r) w nowhere
+  sequence-nowhere w a = record { eaten = tt; only = go }
+    where
+      go : (j : List Item) (t : List ℕ) → Cat (Reading s l) (Reading (s + size l) r) j → w ≡ codes j ++ t → Parted (sequence l r) j t → nowhere ≡ from j t
+      go j t (cat y z p g) k h =
+          let m : nowhere ≡ from y (codes z ++ t) =
+          a .only y (codes z ++ t) p (k ∙ append-cut (codes (y ++ z)) (codes y) (codes z) t (codes-append y z)) (parted-left y z p g t h) in
+          let c : _≡_ {A = ℕ} 0 1 = cc in
+          absurd (omega arith)

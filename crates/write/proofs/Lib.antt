@@ -1,0 +1,9 @@
+-- The laws that belong to no one function.
+mod Beginnings
+mod Laid
+mod LaidBlocks
+mod LaidStays
+mod Laying
+mod Lays
+mod Reaches
+mod Writing

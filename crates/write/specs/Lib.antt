@@ -1,0 +1,2 @@
+-- What the contracts of Write cite.
+pub mod Lay

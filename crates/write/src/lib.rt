@@ -1,0 +1,54 @@
+// Records written: a run that is complete, as the items of its one reading.
+ghost use mathlib.Core.List.{List};
+ghost use Prim.Native.Nat.{ℕ};
+ghost use Rattle.meaning.specs.Promises.{Writes};
+ghost use Rattle.judge.specs.Admission.{Entered};
+use judge::Admission;
+use lay::Laid;
+use meaning::Refusal;
+use meaning::WriteAnswer;
+use record::nulls;
+
+mod firsts; // firsts.rt: the codes that begin the words of each part
+mod lay; // lay.rt: what a part lays of a run
+
+// The longest run that is written.
+const LONGEST: usize = 65536;
+
+// The answer for the n nodes of an admitted file. The run is laid twice: first into a space where no item fits, which measures the
+// record, and then, where there is room, into the space lent.
+fn write_run(nodes: &[u64; 512], n: usize, run: &[u8], space: &mut [u8]) -> WriteAnswer
+    requires { ⌜ ((f : List ℕ) × Entered f (now nodes) n) ⌝ }
+    ensures { λ r. ⌜ ((f : List ℕ) → Entered f (now (nodes .entry)) n → Writes f (now (run .entry)) (now (space .entry)) r (now (space .exit))) ⌝ }
+{
+    if LONGEST < run.len() {
+        return WriteAnswer::Refused(Refusal::Length);
+    }
+    let nulls = nulls::nulls_of(nodes, n);
+    let firsts = firsts::firsts_of(nodes, &nulls, n);
+    let mut none = [0u8; 1];
+    let Laid::To(events, items) = lay::lay(nodes, &nulls, &firsts, run, &mut none, n - 1, 0, 0)
+    else {
+        return WriteAnswer::Refused(Refusal::Incomplete);
+    };
+    if events != run.len() {
+        return WriteAnswer::Refused(Refusal::Incomplete);
+    }
+    let bytes = 2 * items;
+    if space.len() < bytes {
+        return WriteAnswer::Refused(Refusal::Room);
+    }
+    lay::lay(nodes, &nulls, &firsts, run, space, n - 1, 0, 0);
+    WriteAnswer::Written(bytes as u64)
+}
+
+// Write: 0 to 7 or 9 to 11, and the length in bytes. A refusal leaves the space as it came.
+pub fn write(file: &[u8], run: &[u8], space: &mut [u8]) -> WriteAnswer
+    ensures { λ r. ⌜ Writes (now (file .entry)) (now (run .entry)) (now (space .entry)) r (now (space .exit)) ⌝ }
+{
+    let mut nodes = [0u64; 512];
+    match judge::admit(file, &mut nodes) {
+        Admission::Refused(r) => WriteAnswer::Refused(r),
+        Admission::Nodes(n) => write_run(&nodes, n, run, space),
+    }
+}
