@@ -47,3 +47,4 @@ pub mod EventNodes
 pub mod Pieces
 pub mod Meet
 pub mod Lit
+pub mod Room

@@ -245,3 +245,17 @@ barred-node-small f r (malformed b) = refused-node-small f r b
 barred-node-small f r (conflicting e i k c h l) =
     let there = l .there in
     omega (arith, part-within 0 e i (there .0) (there .1), h .formed .lists .1, h .formed .framed .2 .1, zero-add (size e))
+
+-- a file is refused with one of 1 to 7
+refused-number : (f : List ℕ) (r : Refusal) → Refused f r → row r .answer ≤ 6
+refused-number f r (by-size n) = omega arith
+refused-number f r (by-letters s n) = omega arith
+refused-number f r (by-measures s l n) = omega arith
+refused-number f r (by-record i fr l below n) = omega arith
+refused-number f r (by-order i fr table l below n) = omega arith
+refused-number f r (by-root i fr table order n l) = omega arith
+refused-number f r (by-repeats e i w l a b) = omega arith
+
+pub barred-number : (f : List ℕ) (r : Refusal) → Barred f r → row r .answer ≤ 7
+barred-number f r (malformed b) = omega (arith, refused-number f r b)
+barred-number f r (conflicting e i k c h l) = omega arith
