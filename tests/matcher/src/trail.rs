@@ -150,12 +150,19 @@ pub fn wrong_state(automaton: &Automaton, random: &mut Random, turn: usize) -> V
             let other = random.below(tree.len());
             bytes[..2].copy_from_slice(&(other as u16 + 1).to_le_bytes());
         }
-        5 => bytes[..2].copy_from_slice(&[0, 0]),
-        6 => change_counter(
-            &mut bytes,
-            random.below(32),
-            random.pick(&[1, 65_535, 256, 4_096]),
-        ),
+        5 => {
+            // The start, with the counters of another place or with a single one.
+            bytes[..2].copy_from_slice(&[0, 0]);
+            if random.percent(50) {
+                bytes[2..].fill(0);
+                change_counter(&mut bytes, random.pick(&[0, 0, 31]), 1);
+            }
+        }
+        6 => {
+            let any = random.below(32);
+            let rank = random.pick(&[31, any, any]);
+            change_counter(&mut bytes, rank, random.pick(&[1, 65_535, 256, 4_096]));
+        }
         _ => {
             let rank = random.below(tree.repeats().len().max(1));
             let over = tree
@@ -195,6 +202,7 @@ pub fn wrong_record(
         random.pick(repeats) as u16
     };
     match turn % RECORD_CHANGES {
+        5 => hollow_block(automaton, random, &mut numbers, repeat),
         _ if numbers.is_empty() => numbers.push(node),
         0 => numbers[place] = numbers[place] % 4_096 + 4_096 * random.below(16) as u16,
         1 => numbers[place] = numbers[place] / 4_096 * 4_096 + node,
@@ -205,9 +213,6 @@ pub fn wrong_record(
         4 => {
             let next = (place + 1).min(numbers.len() - 1);
             numbers.swap(place, next);
-        }
-        5 => {
-            numbers.splice(place..place, [repeat + 4_096, repeat + 8_192]);
         }
         6 => numbers.truncate(place),
         7 => numbers[place] = random.below(65_536) as u16,
@@ -228,4 +233,28 @@ pub fn wrong_record(
         }
     }
     bytes
+}
+
+/// Puts in a block without an event: before a block of a repeat whose body has the empty word, where there is one, or
+/// else one of the repeat given, anywhere.
+fn hollow_block(automaton: &Automaton, random: &mut Random, numbers: &mut Vec<u16>, repeat: u16) {
+    let tree = &automaton.tree;
+    let hollow: Vec<u16> = tree
+        .repeats()
+        .iter()
+        .filter(|&&repeat| tree.nullable(tree.body(repeat)))
+        .map(|&repeat| repeat as u16)
+        .collect();
+    let places: Vec<usize> = (0..numbers.len())
+        .filter(|&at| numbers[at] / 4_096 == 1 && hollow.contains(&(numbers[at] % 4_096)))
+        .collect();
+    let (place, repeat) = if !places.is_empty() {
+        let place = random.pick(&places);
+        (place, numbers[place] % 4_096)
+    } else if numbers.is_empty() && !hollow.is_empty() {
+        (0, random.pick(&hollow))
+    } else {
+        (random.below(numbers.len() + 1), repeat)
+    };
+    numbers.splice(place..place, [repeat + 4_096, repeat + 8_192]);
 }
