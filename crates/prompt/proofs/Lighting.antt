@@ -8,9 +8,10 @@ use native.Mathlib.Decide.{decLe}
 use native.Mathlib.Omega.{arith}
 use Rattle.meaning.specs.Codes.{Has}
 use Rattle.meaning.specs.Expr.{Expr, event, size, Part, Bounded}
-use Rattle.meaning.specs.Node.{node, InOrder, Stands}
+use Rattle.meaning.specs.Node.{InOrder, InTable, Stands}
 use Rattle.meaning.specs.Promises.{Lights}
 use Rattle.meaning.proofs.Directly.{part-place}
+use Rattle.meaning.proofs.EventNodes.{part-stands}
 use Rattle.meaning.proofs.Files.{table-bounded}
 use Rattle.meaning.proofs.FirstWorded.{first-iff-worded}
 use Rattle.meaning.proofs.Loosened.{Near, lights-iff-near}
@@ -21,21 +22,21 @@ use Rattle.judge.specs.Sets.{SetsAt, TableUpTo}
 use Rattle.judge.specs.declared.sets.Sets.{Sets}
 use Rattle.plan.specs.Plan.{Plans}
 use Rattle.prompt.specs.Near.{Kept, TellsNear, CodeNear, CodesNear, StartLit, LitAt}
-use Rattle.prompt.proofs.EventNodes.{event-record, record-event}
+use Rattle.prompt.proofs.EventNodes.{record-event}
 
 -- ---- one node
 
-pub code-near : {nodes plan : List ℕ} {n p q : ℕ} {r : Bool} (set code : ℕ) → q < n → kindOf (held nodes q) ≡ 1 → TellsNear nodes plan n p q r
-    → r ≡ true → code ≡ codeOf (held nodes q) → ((c : ℕ) → Has set c ↔ (c ≡ code)) → CodeNear nodes plan n p q set
-code-near {nodes} {q = q} set code l k w yes-near told only = record {
+pub code-near : {nodes plan : List ℕ} {n p q : ℕ} {r : Bool} (set code : ℕ) → q < n → InTable (held nodes q) → kindOf (held nodes q) ≡ 1
+    → TellsNear nodes plan n p q r → r ≡ true → code ≡ codeOf (held nodes q) → ((c : ℕ) → Has set c ↔ (c ≡ code)) → CodeNear nodes plan n p q set
+code-near {nodes} {q = q} set code l kept k w yes-near told only = record {
   holds =
       λ e t pl same c. (
         λ h. (
           w .tells e t pl same .0 yes-near,
           subst (λ (d : ℕ). Part 0 e q (event d)) (sym (only c .0 h ∙ told))
-              (record-event (held nodes) 0 e (pl .stands) q (omega arith) (omega (arith, pl .sized)) k),
+              (record-event (held nodes) e (pl .stands) q (omega (arith, pl .sized)) kept k),
         ),
-        λ f. only c .1 (sym (told ∙ ap codeOf (event-record (held nodes) 0 e (pl .stands) q c (f .1)))),
+        λ f. only c .1 (sym (told ∙ ap codeOf (part-stands (held nodes) 0 e q c (pl .stands) (f .1)))),
       );
 }
 
@@ -49,7 +50,7 @@ pub code-of-none : (nodes plan : List ℕ) (n p q set : ℕ) → ¬ (kindOf (hel
 code-of-none nodes plan n p q set other none = record {
   holds =
       λ e t pl same c.
-      (λ h. absurd (none c h), λ f. absurd (other (ap kindOf (event-record (held nodes) 0 e (pl .stands) q c (f .1)))));
+      (λ h. absurd (none c h), λ f. absurd (other (ap kindOf (part-stands (held nodes) 0 e q c (pl .stands) (f .1)))));
 }
 
 -- ---- the nodes passed
@@ -90,7 +91,7 @@ lit-after {nodes} {plan} {n} {p} set l k kept near = record { holds = λ e pl c.
     both : (e : Expr) → Plans nodes plan n e → (c : ℕ) → Has set c ↔ Lights e (suc p) c
     both e pl c =
         let h = kept-bounded nodes n e kept (pl .stands) (pl .sized) in
-        let w = record-event (held nodes) 0 e (pl .stands) p (omega arith) (omega (arith, pl .sized)) k in
+        let w = record-event (held nodes) e (pl .stands) p (omega (arith, pl .sized)) (kept p l) k in
         let t = part-place 0 e h p (codeOf (held nodes p)) w in
         let lit = lights-iff-near e h (t .0) c in
         let there = near .holds e (t .0) pl (t .2) c in (

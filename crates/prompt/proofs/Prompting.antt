@@ -14,6 +14,7 @@ use Rattle.meaning.specs.Codes.{Has}
 use Rattle.meaning.specs.Expr.{Expr}
 use Rattle.meaning.specs.File.{Admitted}
 use Rattle.meaning.specs.Promises.{Lights, Prompts}
+use Rattle.meaning.proofs.EventNodes.{part-stands}
 use Rattle.meaning.proofs.Directly.{place-part}
 use Rattle.meaning.proofs.Place.{codeOf, nodeOf}
 use Rattle.meaning.proofs.Spots.{Spot, start, behind}
@@ -29,7 +30,6 @@ use Rattle.states.specs.Valid.{AtSpot, ReadOf}
 use Rattle.states.specs.Ready.{Ready}
 use Rattle.plan.specs.Plan.{Plans}
 use Rattle.prompt.specs.Near.{Kept, LitAt}
-use Rattle.prompt.proofs.EventNodes.{event-record}
 use Rattle.procedure.proofs.Nodes.{nodes-kept}
 use Rattle.states.proofs.Readiness.{admitted-entered, admitted-expr, read-spot}
 
@@ -53,7 +53,7 @@ stood-event : {nodes : List ℕ} {n : ℕ} (e : Expr) (k : Spot e) (node : ℕ) 
 stood-event e start node counts ready s some = absurd (omega (arith, s .0))
 stood-event {nodes} e (behind p) node counts ready s some =
     let here : node - 1 ≡ nodeOf 0 e p = omega (arith, s .0) in
-    ap (λ (i : ℕ). kindOf (held nodes i)) here ∙ ap kindOf (event-record (held nodes) 0 e (ready .stands) (nodeOf 0 e p) (codeOf e p) (place-part 0 e p))
+    ap (λ (i : ℕ). kindOf (held nodes i)) here ∙ ap kindOf (part-stands (held nodes) 0 e (nodeOf 0 e p) (codeOf e p) (ready .stands) (place-part 0 e p))
 
 pub read-event : {nodes : List ℕ} {n : ℕ} (e : Expr) (bytes counts : List ℕ) (a : Read) (node : ℕ) → Ready nodes n e → ReadOf e bytes counts a
     → a ≡ read.Reached node → 1 ≤ node → kindOf (held nodes (node - 1)) ≡ 1

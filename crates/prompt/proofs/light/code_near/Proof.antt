@@ -47,7 +47,8 @@ returns-2 c =
     let told = c .before .before .before in
     let event = told .before in
     let start = event .before .before .before in
-    code-near _ _ (start .pre .1 .0) (sym (event .before .kind-of .ensures) ∙ event .if1 .left) (told .near .ensures) (c .before .before .if2 .taken)
+    let a = start .args in
+    code-near _ _ (start .pre .1 .0) (start .pre .1 .1 .0 (a .q) (start .pre .1 .0)) (sym (event .before .kind-of .ensures) ∙ event .if1 .left) (told .near .ensures) (c .before .before .if2 .taken)
     (c .before .code-of .ensures) (c .one .ensures .0)
 
 none-requires-2 : tie.Need-none-requires-2
