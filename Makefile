@@ -9,15 +9,10 @@ VERSION = 0.1.0
 MADE = target/staticlib/libseqp.a
 USED = $(or $(ARCHIVE),$(MADE))
 CRATES = crates.txt $(shell find crates -type f)
-# The program stands in the tree as soon as its crate does.
-JUDGE = $(if $(wildcard crates/seqp_judge),build/bin/seqp_judge)
 STATION = examples/station.c $(wildcard examples/station/*.c)
-# The station needs all five calls.
-WHOLE = $(shell scripts/whole && echo yes)
 
-all: build/lib/libseqp.a build/include/seqp.h $(if $(WHOLE),build/bin/station) $(JUDGE)
+all: build/lib/libseqp.a build/include/seqp.h build/bin/station build/bin/seqp_judge
 	@echo "made: $^"
-	@scripts/whole || true
 
 $(MADE): $(CRATES)
 	@scripts/timed "proving the library and making its archive" rt staticlib seqp
@@ -43,7 +38,6 @@ build/bin/station: $(STATION) $(wildcard examples/station/*.h) build/include/seq
 	@scripts/timed "making the station" scripts/cc -std=c11 -static -Ibuild/include $(STATION) build/lib/libseqp.a -o $@
 
 demo: all
-	@scripts/whole || { echo "make demo: the station cannot be made yet"; exit 1; }
 	@scripts/timed "running the station on the examples" scripts/demo
 
 install: all

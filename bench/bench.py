@@ -73,9 +73,7 @@ def file_of(name, kind):
 
 
 def build_archive():
-    """Has rt prove and make the archive, where the crate is there."""
-    if not (TOP / "crates" / CRATE).is_dir():
-        return None
+    """Has rt prove and make the archive."""
     say(f"proving and making the archive of {CRATE}")
     command("rt", "staticlib", CRATE)
     return ARCHIVE
@@ -83,8 +81,7 @@ def build_archive():
 
 def build_measure(archive):
     program = BUILD / "measure"
-    command(COMPILER, "-static", "-O2", "-Wall", "-Wextra", "-Iinclude", "bench/measure.c",
-            *(["-Wl,--whole-archive", archive, "-Wl,--no-whole-archive"] if archive else []), "-o", program)
+    command(COMPILER, "-static", "-O2", "-Wall", "-Wextra", "-Iinclude", "bench/measure.c", archive, "-o", program)
     return program
 
 
@@ -102,11 +99,10 @@ def build_libxml2():
 
 
 class Ours:
-    """The library's calls, as far as the archive has them."""
+    """The library's calls."""
 
     def __init__(self, program):
         self.program = program
-        self.calls = output("scripts/run", program, "calls")[0].decode().split()
         self.laid = {name: procedures.Laid(tree) for name, (tree, _) in procedures.ALL.items()}
 
     def must_give(self, call, name, given):
@@ -165,7 +161,6 @@ class Theirs:
 
 HEADINGS = ("what", "procedure", "ours", "libxml2", "ratio", "target", "verdict")
 WIDTHS = (28, 13, 11, 11, 7, 7, 0)
-NOT_THERE = "not there yet"
 
 
 def line(cells):
@@ -187,7 +182,7 @@ class Table:
     """Prints a row as soon as it is measured, and counts the verdicts."""
 
     def __init__(self):
-        self.met = self.missed = self.absent = self.wrong = 0
+        self.met = self.missed = self.wrong = 0
         say(line(HEADINGS))
 
     def row(self, what, name, ours, against, target=None, theirs=None):
@@ -205,18 +200,13 @@ class Table:
         say(line((what, name, figure(mine), figure(theirs), ratio, target or "", verdict)))
         return mine
 
-    def row_not_there(self, what, name, target=None, theirs=None):
-        self.absent += 1
-        say(line((what, name, "-", figure(theirs), "", target or "", NOT_THERE)))
-
     def judged(self, held):
         self.met, self.missed = self.met + held, self.missed + (not held)
         return "met" if held else "MISSED"
 
     def end(self):
         say("")
-        say(f"{self.met} targets met, {self.missed} missed, {self.wrong} figures failed, "
-            f"{self.absent} rows without a call to measure")
+        say(f"{self.met} targets met, {self.missed} missed, {self.wrong} figures failed")
         return 1 if self.missed or self.wrong else 2 if self.met == 0 else 0
 
 
@@ -224,35 +214,32 @@ class Bench:
     def __init__(self, ours, theirs):
         self.ours, self.theirs, self.table = ours, theirs, Table()
 
-    def compare(self, call, what, name, ours, theirs, target):
-        if call in self.ours.calls:
-            self.table.row(what, name, ours, theirs, target, theirs)
-        else:
-            self.table.row_not_there(what, name, target, theirs)
+    def compare(self, what, name, ours, theirs, target):
+        self.table.row(what, name, ours, theirs, target, theirs)
 
     def judge(self):
         for name in procedures.NAMED:
-            self.compare("judge", "Judge a file", name, lambda: self.ours.cost("judge", name, 0),
+            self.compare("Judge a file", name, lambda: self.ours.cost("judge", name, 0),
                          self.theirs.compile(name), JUDGE_TARGETS.get(name))
 
     def follow_one(self):
         for name in procedures.NAMED:
-            self.compare("follow", "Follow one event", name, lambda: self.ours.cost("follow", name, 1),
+            self.compare("Follow one event", name, lambda: self.ours.cost("follow", name, 1),
                          self.theirs.compile(name) + self.theirs.push(name), ONE_EVENT_TARGETS.get(name))
 
-    def each_event(self, call, what, cost):
+    def each_event(self, what, cost):
         for name, (_, run) in procedures.NAMED.items():
             if len(run) >= LEAST_BULK:
-                self.compare(call, what, name, lambda: cost(name, len(run)) / len(run),
+                self.compare(what, name, lambda: cost(name, len(run)) / len(run),
                              self.theirs.push(name), EVENT_TARGETS.get(name))
 
     def in_bulk(self):
         def beyond_the_call(name, length):
             return self.ours.cost("follow", name, length) - self.ours.cost("follow", name, 0)
 
-        self.each_event("follow", "Follow in bulk, an event", beyond_the_call)
-        self.each_event("write", "Write, an event", lambda name, _: self.ours.cost("write", name, "all"))
-        self.each_event("check", "Check, an event", lambda name, _: self.ours.cost("check", name, "all"))
+        self.each_event("Follow in bulk, an event", beyond_the_call)
+        self.each_event("Write, an event", lambda name, _: self.ours.cost("write", name, "all"))
+        self.each_event("Check, an event", lambda name, _: self.ours.cost("check", name, "all"))
 
     def growth(self):
         """What a call costs that has little to do besides reading the file, as the file grows."""
@@ -266,19 +253,13 @@ class Bench:
         before = None
         for nodes in procedures.SIZES:
             name, target = f"{shape} {nodes}", DOUBLING_TARGET if nodes != procedures.SIZES[0] else None
-            if call in self.ours.calls:
-                before = self.table.row(what, name, lambda: self.ours.cost(call, f"{shape}{nodes}", given),
-                                        before, target)
-            else:
-                self.table.row_not_there(what, name, target)
+            before = self.table.row(what, name, lambda: self.ours.cost(call, f"{shape}{nodes}", given),
+                                    before, target)
 
     def stack(self):
         for call in ("judge", "follow", "write", "check", "prompt"):
             what, name = f"{call.capitalize()}, stack in bytes", "worst chain"
-            if call in self.ours.calls:
-                self.table.row(what, name, lambda: self.worst_stack(call), None)
-            else:
-                self.table.row_not_there(what, name)
+            self.table.row(what, name, lambda: self.worst_stack(call), None)
 
     def worst_stack(self, call):
         longest = procedures.SIZES[-1]
@@ -300,7 +281,6 @@ def main():
     archive = Path(sys.argv[1]).resolve() if len(sys.argv) > 1 else build_archive()
     ours = Ours(build_measure(archive))
     theirs = Theirs(build_libxml2())
-    say("calls in the archive: " + (", ".join(ours.calls) or "none") if archive else "there is no archive yet")
     say(f"libxml2 {theirs.version}")
     say("")
     return Bench(ours, theirs).run()

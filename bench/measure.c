@@ -1,7 +1,6 @@
 /*
  * One call of the library, made again and again, so that its instructions can be counted.
  *
- *     measure calls                            prints the calls that the archive has, one a line
  *     measure CALL FILE INPUT BYTES REPEATS    makes the call so often and prints what it gave the last time
  *     measure stack CALL FILE INPUT BYTES      makes it once and prints how many bytes of stack it touched
  *
@@ -18,13 +17,6 @@
 
 #include "input.h"
 #include "seqp.h"
-
-/* A call that the archive does not have yet is null here, and the program links all the same. */
-#pragma weak seq_judge
-#pragma weak seq_follow
-#pragma weak seq_write
-#pragma weak seq_check
-#pragma weak seq_prompt
 
 enum {
     MOST_REPEATS = 16,
@@ -95,19 +87,16 @@ static void print_prompt(void)
     printf("%u %llu\n", answer, (unsigned long long)set);
 }
 
-typedef void (*function)(void);
-
 static const struct call {
     const char *name;
-    function in_archive;
     void (*make)(uint8_t *state);
     void (*print)(void);
 } calls[] = {
-    {"judge", (function)seq_judge, judge, print_judge},
-    {"follow", (function)seq_follow, follow, print_follow},
-    {"write", (function)seq_write, write_record, print_write},
-    {"check", (function)seq_check, check, print_check},
-    {"prompt", (function)seq_prompt, prompt, print_prompt},
+    {"judge", judge, print_judge},
+    {"follow", follow, print_follow},
+    {"write", write_record, print_write},
+    {"check", check, print_check},
+    {"prompt", prompt, print_prompt},
 };
 enum { CALLS = sizeof calls / sizeof calls[0] };
 
@@ -120,18 +109,10 @@ static void fail(const char *why)
 static const struct call *call_named(const char *name)
 {
     for (int i = 0; i < CALLS; i++)
-        if (strcmp(calls[i].name, name) == 0 && calls[i].in_archive != NULL)
+        if (strcmp(calls[i].name, name) == 0)
             return &calls[i];
-    fail("the archive has no such call");
+    fail("there is no such call");
     return NULL;
-}
-
-static int print_calls(void)
-{
-    for (int i = 0; i < CALLS; i++)
-        if (calls[i].in_archive != NULL)
-            puts(calls[i].name);
-    return 0;
 }
 
 static void read_lent(const char *file_path, const char *input_path, const char *bytes)
@@ -187,10 +168,8 @@ static int print_stack(const struct call *call)
 
 int main(int argc, char **argv)
 {
-    if (argc == 2 && strcmp(argv[1], "calls") == 0)
-        return print_calls();
     if (argc != 6)
-        fail("calls | CALL FILE INPUT BYTES REPEATS | stack CALL FILE INPUT BYTES");
+        fail("CALL FILE INPUT BYTES REPEATS | stack CALL FILE INPUT BYTES");
     if (strcmp(argv[1], "stack") == 0) {
         read_lent(argv[3], argv[4], argv[5]);
         return print_stack(call_named(argv[2]));

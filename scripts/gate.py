@@ -116,14 +116,6 @@ def listed_crates():
     return [line.split(":")[0].strip() for line in text.splitlines() if ":" in line.split("#")[0]]
 
 
-def whole():
-    """Whether all five calls are exported; tests/c and the station link with each of them."""
-    done = subprocess.run(["bash", "scripts/whole"], cwd=TOP, stdin=subprocess.DEVNULL, capture_output=True, text=True)
-    if done.returncode != 0:
-        print(f"tests/c and the station wait: {done.stderr.strip()}", flush=True)
-    return done.returncode == 0
-
-
 def parts():
     """Name, command, way to count, further environment; in the order in which they run."""
     yield "the gate's own tests", ["python3", "scripts/gate-tests"], counted_by_verdict, {}
@@ -139,9 +131,8 @@ def parts():
         command = ["cargo", "test", "--release", "--offline", "--manifest-path", f"tests/{name}/Cargo.toml"]
         yield f"the tests of tests/{name}", command, counted_by_cargo, {"CARGO_TARGET_DIR": str(BUILD / "cargo" / name)}
     yield "the procedures of examples", ["python3", "scripts/procedures", "--check"], counted_by_verdict, {}
-    if whole():
-        yield "the header and the archive from C", ["python3", "scripts/c-tests"], counted_by_verdict, {}
-        yield "the station on its scripts", ["python3", "scripts/station-tests"], counted_by_verdict, {}
+    yield "the header and the archive from C", ["python3", "scripts/c-tests"], counted_by_verdict, {}
+    yield "the station on its scripts", ["python3", "scripts/station-tests"], counted_by_verdict, {}
 
 
 # Commands that Debian has, by package; rt comes with the machine.
