@@ -1,14 +1,18 @@
 """What moved between two commits, paired and written as Markdown."""
 import re
+import textwrap
 from collections import defaultdict
 from typing import NamedTuple
 
 # Of more files than these a note has the numbers and no list.
 MOST_LISTED = 40
+WIDTH = 118
 # A count has moved if it moved by more than this part of itself.
 MOVED = 0.02
 
 PROVED = re.compile(r"^rt: (\S+) proved \((\d+) s\)$", re.M)
+# A procedure and what is measured of it; no figure is a hyphen.
+FIGURE = re.compile(r"(\S.*?) +([\d,.]+)$")
 MEASURED = re.compile(r"^\d+ targets met, \d+ missed, (\d+) figures failed$", re.M)
 
 
@@ -33,7 +37,9 @@ def pair(old, new, *keys):
             else:
                 left.append(item)
         old, new = [item for items in waiting.values() for item in items], left
-    return Moves(new, [(a, b) for a, b in pairs if a.text != b.text], old, [(a, b) for a, b in pairs if a.text == b.text])
+    changed = [(before, after) for before, after in pairs if before.text != after.text]
+    stayed = [(before, after) for before, after in pairs if before.text == after.text]
+    return Moves(new, changed, old, stayed)
 
 
 def pair_named(old, new):
@@ -54,11 +60,8 @@ def pair_files(old, new):
 def table(heads, rows):
     """A table whose first column is text and whose others are numbers."""
     lines = [heads, ["---"] + ["--:"] * (len(heads) - 1), *rows]
-    return "\n".join("| " + " | ".join(str(cell) for cell in line) + " |" for line in lines)
-
-
-def number(value):
-    return f"{value:,}"
+    cells = [[f"{cell:,}" if isinstance(cell, int) else cell for cell in line] for line in lines]
+    return "\n".join(f"| {' | '.join(line)} |" for line in cells)
 
 
 def quoted(text):
@@ -70,18 +73,24 @@ def change(before, after, show):
     return show(after) if show(before) == show(after) else f"{show(before)} → {show(after)}"
 
 
-def tally(moves):
+def tally(moves, further=""):
     elsewhere = sum(1 for old, new in moves.stayed if old.place != new.place)
-    return (f"{len(moves.added)} added, {len(moves.changed)} changed, {len(moves.dropped)} dropped; "
+    return (f"{len(moves.added)} added, {len(moves.changed)} changed, {len(moves.dropped)} dropped{further}; "
             f"{len(moves.stayed)} stayed" + (f", {elsewhere} of them in another file" if elsewhere else "") + ".")
 
 
-def listed(moves, show, said_of=lambda item: ""):
-    """The lists of what moved; said_of adds something to what was added or dropped."""
-    parts = (("added", [show(item) + said_of(item) for item in moves.added]),
-             ("changed", [change(old, new, show) for old, new in moves.changed]),
-             ("dropped", [show(item) + said_of(item) for item in moves.dropped]))
-    return "\n".join(f"- {word}: {', '.join(sorted(items))}" for word, items in parts if items)
+def bullets(*parts):
+    """A list for each word that has something; the parts are words and lists of names."""
+    return "\n".join(
+        textwrap.fill(f"- {word}: {', '.join(sorted(names))}", WIDTH, subsequent_indent="  ", break_long_words=False,
+                      break_on_hyphens=False) for word, names in parts if names)
+
+
+def named(moves, show):
+    """The parts of such lists."""
+    return (("added", [show(item) for item in moves.added]),
+            ("changed", [change(old, new, show) for old, new in moves.changed]),
+            ("dropped", [show(item) for item in moves.dropped]))
 
 
 def section(title, *parts):
@@ -96,18 +105,28 @@ def function_name(item):
     return quoted(f"{item.place}::{item.name}")
 
 
+def proof_name(item):
+    crate, _, *rest = item.place.removeprefix("crates/").removesuffix(".antt").split("/")
+    return quoted("/".join([crate, *rest]))
+
+
+def apart(items, others):
+    """Those that stand among others with the same name and text, and the rest."""
+    known = {(item.name, item.text) for item in others}
+    there = [item for item in items if (item.name, item.text) in known]
+    return there, [item for item in items if (item.name, item.text) not in known]
+
+
 def definitions_section(old, new, old_proofs, new_proofs):
-    """The definitions; those whose text stood or stands among the proofs are marked."""
-    before, after = ({(item.name, item.text) for item in items} for items in (old_proofs, new_proofs))
+    """The definitions; what came from the proofs as it was is not added, and what went there not dropped."""
     moves = pair_named(old, new)
-    added, dropped = set(moves.added), set(moves.dropped)
-
-    def said_of(item):
-        if item in added and (item.name, item.text) in before:
-            return " (moved from proofs)"
-        return " (moved to proofs)" if item in dropped and (item.name, item.text) in after else ""
-
-    return section("Definitions", tally(moves), listed(moves, definition_name, said_of))
+    came, added = apart(moves.added, old_proofs)
+    went, dropped = apart(moves.dropped, new_proofs)
+    moves = moves._replace(added=added, dropped=dropped)
+    further = "".join(f", {len(items)} moved {way} proofs" for items, way in ((came, "from"), (went, "to")) if items)
+    return section("Definitions", tally(moves, further), bullets(
+        *named(moves, definition_name), ("moved from proofs", [definition_name(item) for item in came]),
+        ("moved to proofs", [definition_name(item) for item in went])))
 
 
 def is_public(contract):
@@ -119,62 +138,83 @@ def is_promise(definition):
 
 
 def public_section(old, new):
-    """The contracts of the public calls and the definitions in Promises; old and new are such pairs of lists."""
-    calls = pair_named(*([item for item in tree[0] if is_public(item)] for tree in (old, new)))
-    said = pair_named(*([item for item in tree[1] if is_promise(item)] for tree in (old, new)))
+    """The contracts of the public calls and the definitions in Promises; old and new are all of both at a commit."""
+    calls = pair_named(*([item for item in contracts if is_public(item)] for contracts, _ in (old, new)))
+    said = pair_named(*([item for item in definitions if is_promise(item)] for _, definitions in (old, new)))
+    title = "Promises of the public calls"
     if not any(moves.added or moves.changed or moves.dropped for moves in (calls, said)):
-        return section("Promises of the public calls", f"No public promise moved: the contracts of {len(calls.stayed)} calls "
-                       f"and {len(said.stayed)} definitions in `Promises` stayed.")
-    return section("Promises of the public calls", f"Contracts of the calls: {tally(calls)}", listed(calls, function_name),
-                   f"Definitions in `Promises`: {tally(said)}", listed(said, definition_name))
+        return section(title, f"No public promise moved: the contracts of {len(calls.stayed)} calls and "
+                       f"{len(said.stayed)} definitions in `Promises` stayed.")
+    return section(title, f"Contracts of the calls: {tally(calls)}", bullets(*named(calls, function_name)),
+                   f"Definitions in `Promises`: {tally(said)}", bullets(*named(said, definition_name)))
 
 
 def contracts_section(old, new):
     moves = pair_named(*([item for item in items if not is_public(item)] for items in (old, new)))
-    return section("Contracts of the other functions", tally(moves), listed(moves, function_name))
+    return section("Contracts of the other functions", tally(moves), bullets(*named(moves, function_name)))
+
+
+def proofs_section(old, new):
+    moves = pair_files(old, new)
+    counts = defaultdict(lambda: [0] * 6)
+    changed, stayed = ([new for _, new in pairs] for pairs in (moves.changed, moves.stayed))
+    for column, items in enumerate((moves.added, changed, moves.dropped, stayed)):
+        for item in items:
+            counts[crate_of(item)][column] += 1
+    for column, items in ((4, old), (5, new)):
+        for item in items:
+            counts[crate_of(item)][column] += item.lines
+    rows = [[crate, *row] for crate, row in sorted(counts.items()) if any(row[:3]) or row[4] != row[5]]
+    rows.append(["**all**", *(sum(row[i] for row in counts.values()) for i in range(6))])
+    heads = ["crate", "added", "changed", "dropped", "stayed", "lines before", "lines after"]
+    return section("Proof files", tally(moves), table(heads, rows), proofs_listed(moves))
 
 
 def crate_of(item):
     return item.place.split("/")[1]
 
 
-def proof_name(item):
-    crate, _, *rest = item.place.removeprefix("crates/").removesuffix(".antt").split("/")
-    return "/".join([crate, *rest])
-
-
-def proofs_section(old, new):
-    moves = pair_files(old, new)
-    counts = defaultdict(lambda: [0] * 6)
-    of_new = [item for _, item in moves.changed], [item for _, item in moves.stayed]
-    for column, items in enumerate((moves.added, of_new[0], moves.dropped, of_new[1])):
-        for item in items:
-            counts[crate_of(item)][column] += 1
-    for column, items in ((4, old), (5, new)):
-        for item in items:
-            counts[crate_of(item)][column] += item.lines
-    rows = [[crate, *map(number, row)] for crate, row in sorted(counts.items())]
-    rows.append(["**all**", *(number(sum(row[i] for row in counts.values())) for i in range(6))])
-    return section("Proof files", tally(moves), proofs_listed(moves),
-                   table(["crate", "added", "changed", "dropped", "stayed", "lines before", "lines after"], rows))
-
-
 def proofs_listed(moves):
-    moved = len(moves.added) + len(moves.changed) + len(moves.dropped)
-    if moved > MOST_LISTED:
-        return f"More than {MOST_LISTED} moved; by crate:"
-    parts = (("added", [f"{quoted(proof_name(item))} ({number(item.lines)} lines)" for item in moves.added]),
-             ("changed", [f"{change(a, b, lambda i: quoted(proof_name(i)))} ({number(a.lines)} → {number(b.lines)} lines)"
-                          for a, b in moves.changed]),
-             ("dropped", [f"{quoted(proof_name(item))} ({number(item.lines)} lines)" for item in moves.dropped]))
-    return "\n".join(f"- {word}: {', '.join(sorted(items))}" for word, items in parts if items)
+    """The files that moved, each with its lines."""
+    if len(moves.added) + len(moves.changed) + len(moves.dropped) > MOST_LISTED:
+        return f"They are not listed, being more than {MOST_LISTED}."
+    added, dropped = ([f"{proof_name(item)} ({item.lines:,})" for item in items] for items in (moves.added, moves.dropped))
+    changed = [f"{change(old, new, proof_name)} ({old.lines:,} → {new.lines:,})" for old, new in moves.changed]
+    return bullets(("added", added), ("changed", changed), ("dropped", dropped))
 
 
 def lines_section(rows):
     """Rows: what, lines before, after, added, dropped."""
     total = ["**all**", *(sum(row[i] for row in rows) for i in range(1, 5))]
-    return section("Lines", table(["", "before", "after", "added", "dropped"],
-                                  [[row[0], *map(number, row[1:])] for row in [*rows, total]]))
+    return section("Lines", table(["", "before", "after", "added", "dropped"], [*rows, total]))
+
+
+# What git says, with -z: of a file that moved there are two paths.
+
+
+def renames(name_status):
+    """The new path of each file that moved, by its old one."""
+    words, found = iter(name_status.split("\0")), {}
+    for status in words:
+        if status.startswith("R"):
+            old = next(words)
+            found[old] = next(words)
+        elif status:
+            next(words)
+    return found
+
+
+def lines_moved(numstat):
+    """The lines added and dropped of the sources in src, specs and proofs."""
+    words, moved = iter(numstat.split("\0")), defaultdict(lambda: [0, 0])
+    for word in filter(None, words):
+        added, dropped, path = word.split("\t")
+        path = path or (next(words), next(words))[1]
+        if path.endswith((".rt", ".antt")):
+            kind = moved[path.split("/")[2]]
+            kind[0] += int(added)
+            kind[1] += int(dropped)
+    return moved
 
 
 # What was measured.
@@ -189,14 +229,17 @@ def seconds(value):
     return "–" if value is None else f"{value} s"
 
 
-def times_section(old, new, by_clock):
+def times_section(old, new):
+    """Old and new are the seconds of each crate, and those of the whole by the clock and by the processors."""
+    (old, *whole_old), (new, *whole_new) = old, new
     crates = [*new, *(crate for crate in old if crate not in new)]
     rows = [[crate, seconds(old.get(crate)), seconds(new.get(crate)), difference(old.get(crate), new.get(crate))]
             for crate in crates]
     sums = sum(old.values()), sum(new.values())
     rows.append(["**sum**", *map(seconds, sums), difference(*sums)])
     return section("The check's time", table(["crate", "before", "after", "change"], rows),
-                   f"The whole of `rt check`, from nothing: {by_clock[0]:.0f} s before, {by_clock[1]:.0f} s after.")
+                   "The whole of `rt check`, from nothing: by the clock {:.0f} s before, {:.0f} s after; processor time "
+                   "{:.0f} s before, {:.0f} s after.".format(*(s for pair in zip(whole_old, whole_new) for s in pair)))
 
 
 def difference(before, after):
@@ -204,7 +247,7 @@ def difference(before, after):
 
 
 def bench_rows(text):
-    """The figures of make bench by row, or nothing where it did not come to its end or a figure failed."""
+    """Our figures of make bench by row, or nothing where it did not come to its end or a figure failed."""
     lines = text.splitlines()
     head = next((i for i, line in enumerate(lines) if re.match(r"what +procedure +ours ", line)), None)
     ended = MEASURED.search(text)
@@ -215,8 +258,9 @@ def bench_rows(text):
     for line in lines[head + 1:]:
         if not line.strip():
             break
-        procedure, figure = line[left:right].rsplit(None, 1)
-        rows[f"{line[:left].strip()}, {procedure.strip()}"] = float(figure.replace(",", ""))
+        found = FIGURE.match(line[left:right])
+        if found:
+            rows[f"{line[:left].strip()}, {found[1]}"] = float(found[2].replace(",", ""))
     return rows
 
 
@@ -231,9 +275,9 @@ def figure(value):
 def bench_section(old, new):
     both = [row for row in new if row in old]
     moved = [row for row in both if has_moved(old[row], new[row])]
-    apart = [row for row in new if row not in old] + [row for row in old if row not in new]
-    said = f"Of {len(both)} counts of `make bench` {len(moved) or 'none'} moved by more than {MOVED:.0%}."
-    rows = [[row, figure(old.get(row)), figure(new.get(row)), percent(old.get(row), new.get(row))] for row in moved + apart]
+    alone = [row for row in new if row not in old] + [row for row in old if row not in new]
+    said = f"Of {len(both)} counts of `make bench` {len(moved) or 'none'} moved by more than {100 * MOVED:g} %."
+    rows = [[row, figure(old.get(row)), figure(new.get(row)), percent(old.get(row), new.get(row))] for row in moved + alone]
     return section("Instructions", said, table(["count", "before", "after", "change"], rows) if rows else "")
 
 

@@ -53,7 +53,8 @@ def definitions(text):
             at = names or ([] if APART.match(line) else [first] if first in held else at)
         for name in at:
             held[name].append(line)
-    return {name: on_one_line("\n".join(lines)) for name, lines in held.items()}
+    # Who may name it is no part of what it says.
+    return {name: re.sub(r"(?:^|(?<= ))pub ", "", on_one_line("\n".join(lines))) for name, lines in held.items()}
 
 
 def end_of_contract(text, start):
