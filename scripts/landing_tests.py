@@ -168,7 +168,7 @@ class Git(unittest.TestCase):
         self.assertEqual(note.renames("M\0Rs\0R097\0a/x\0b/x\0A\0b/y\0R100\0a/z\0b/z\0"), {"a/x": "b/x", "a/z": "b/z"})
 
     def test_lines_that_moved(self):
-        text = ("3\t1\tcrates/a/src/lib.rt\0" "2\t5\t\0crates/a/proofs/L.antt\0crates/b/proofs/L.antt\0"
+        text = ("3\t1\tcrates/a/src/lib.rt\0" "2\t5\t\0crates/a/specs/L.antt\0crates/b/proofs/L.antt\0"
                 "10\t0\tcrates/b/proofs/f/Proof.antt\0" "7\t7\tcrates/b/must-fail/x.edit\0-\t-\tcrates/a/stdin\0")
         self.assertEqual(note.lines_moved(text), {"src": [3, 1], "proofs": [12, 5]})
 
