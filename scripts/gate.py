@@ -111,8 +111,8 @@ def counted_by_cargo(text):
     return passed, failed
 
 
-def listed_crates():
-    text = (TOP / "crates.txt").read_text(encoding="utf-8")
+def listed_crates(top=TOP):
+    text = (top / "crates.txt").read_text(encoding="utf-8")
     return [line.split(":")[0].strip() for line in text.splitlines() if ":" in line.split("#")[0]]
 
 

@@ -225,25 +225,24 @@ def check_times(log):
     return {crate: int(took) for crate, took in PROVED.findall(log)}
 
 
-def seconds(value):
-    return "–" if value is None else f"{value} s"
+def seconds(value, digits=0):
+    return "–" if value is None else f"{value:,.{digits}f} s"
 
 
 def times_section(old, new):
-    """Old and new are the seconds of each crate, and those of the whole by the clock and by the processors."""
-    (old, *whole_old), (new, *whole_new) = old, new
+    """Old and new are the seconds of each crate, by the clock and of the processors."""
     crates = [*new, *(crate for crate in old if crate not in new)]
-    rows = [[crate, seconds(old.get(crate)), seconds(new.get(crate)), difference(old.get(crate), new.get(crate))]
-            for crate in crates]
-    sums = sum(old.values()), sum(new.values())
-    rows.append(["**sum**", *map(seconds, sums), difference(*sums)])
-    return section("The check's time", table(["crate", "before", "after", "change"], rows),
-                   "The whole of `rt check`, from nothing: by the clock {:.0f} s before, {:.0f} s after; processor time "
-                   "{:.0f} s before, {:.0f} s after.".format(*(s for pair in zip(whole_old, whole_new) for s in pair)))
+    rows = [times_row(crate, old.get(crate), new.get(crate)) for crate in crates]
+    rows.append(times_row("**sum**", *([sum(column) for column in zip(*times.values())] for times in (old, new))))
+    heads = ["crate", "before", "after", "processors before", "processors after", "change"]
+    return section("The check's time", "By the clock, and of the processors, which a busy machine sways less.",
+                   table(heads, rows))
 
 
-def difference(before, after):
-    return "" if None in (before, after) or before == after else f"{after - before:+d} s"
+def times_row(what, before, after):
+    alone = None, None
+    (clock, work), (clock_after, work_after) = before or alone, after or alone
+    return [what, seconds(clock), seconds(clock_after), seconds(work, 1), seconds(work_after, 1), percent(work, work_after)]
 
 
 def bench_rows(text):
