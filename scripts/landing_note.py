@@ -235,7 +235,7 @@ def times_section(old, new):
     rows = [times_row(crate, old.get(crate), new.get(crate)) for crate in crates]
     rows.append(times_row("**sum**", *([sum(column) for column in zip(*times.values())] for times in (old, new))))
     heads = ["crate", "before", "after", "processors before", "processors after", "change"]
-    return section("The check's time", "By the clock, and of the processors, which a busy machine sways less.",
+    return section("The check's time", "By the clock, and of the processors, which a busy machine sways less; the change is theirs.",
                    table(heads, rows))
 
 
