@@ -1,19 +1,33 @@
-// The calls for the station's shell, as C sees them. Each gives the request's answer number and always writes its results.
+// The calls for the station's shell, as C sees them. Each gives the request's answer number and always writes its results:
+// a result without a meaning is 0.
 ghost use Rattle.meaning.specs.Numbers.{checked, followed, judged, prompted, wrote};
 ghost use Rattle.meaning.specs.Promises.{CheckPromise, FollowPromise, JudgePromise, PromptPromise, WritePromise};
+use meaning::CheckAnswer;
+use meaning::FollowAnswer;
+use meaning::JudgeAnswer;
+use meaning::PromptAnswer;
+use meaning::WriteAnswer;
 
-mod numbers; // numbers.rt: an answer as the request's numbers
+mod numbers; // numbers.rt: a refusal and a verdict as the request's numbers
 
 // Judge: 0 to 7; the node, kind and code of a conflict, or 0.
 #[no_mangle]
 pub extern "C" fn seq_judge(file: &[u8], node: &mut u32, kind: &mut u32, code: &mut u32) -> u32
     ensures { λ r. ⌜ JudgePromise (now (file .entry)) (judged r (now (node .exit)) (now (kind .exit)) (now (code .exit))) ⌝ }
 {
-    let row = numbers::of_judge(judge::judge(file));
-    *node = row.node;
-    *kind = row.kind;
-    *code = row.code;
-    row.answer
+    *node = 0;
+    *kind = 0;
+    *code = 0;
+    match judge::judge(file) {
+        JudgeAnswer::Admitted => 0,
+        JudgeAnswer::Refused(refusal) => {
+            // At most 511: a file has at most 512 nodes.
+            *node = numbers::node_of(refusal) as u32;
+            *kind = numbers::kind_of(refusal);
+            *code = numbers::code_of(refusal);
+            numbers::number_of(refusal)
+        }
+    }
 }
 
 // Follow: 0 to 8; the number of events taken, and 0 complete, 1 unfinished, 2 broken.
@@ -27,10 +41,16 @@ pub extern "C" fn seq_follow(
 ) -> u32
     ensures { λ r. ⌜ FollowPromise (now (file .entry)) (now (state .entry)) (now (events .entry)) (followed r (now (taken .exit)) (now (verdict .exit))) (now (state .exit)) ⌝ }
 {
-    let row = numbers::of_follow(follow::follow(file, state, events));
-    *taken = row.taken;
-    *verdict = row.verdict;
-    row.answer
+    *taken = 0;
+    *verdict = 0;
+    match follow::follow(file, state, events) {
+        FollowAnswer::Followed(count, stands) => {
+            *taken = count;
+            *verdict = numbers::verdict_of(stands);
+            0
+        }
+        FollowAnswer::Refused(refusal) => numbers::number_of(refusal),
+    }
 }
 
 // Write a record: 0 to 7 or 9 to 11; the length of the record in bytes, or 0.
@@ -38,9 +58,14 @@ pub extern "C" fn seq_follow(
 pub extern "C" fn seq_write(file: &[u8], run: &[u8], space: &mut [u8], length: &mut u64) -> u32
     ensures { λ r. ⌜ WritePromise (now (file .entry)) (now (run .entry)) (now (space .entry)) (wrote r (now (length .exit))) (now (space .exit)) ⌝ }
 {
-    let row = numbers::of_write(write::write(file, run, space));
-    *length = row.length;
-    row.answer
+    *length = 0;
+    match write::write(file, run, space) {
+        WriteAnswer::Written(bytes) => {
+            *length = bytes;
+            0
+        }
+        WriteAnswer::Refused(refusal) => numbers::number_of(refusal),
+    }
 }
 
 // Check a record: 0 to 6; 1 for yes, 0 for no.
@@ -48,9 +73,15 @@ pub extern "C" fn seq_write(file: &[u8], run: &[u8], space: &mut [u8], length: &
 pub extern "C" fn seq_check(file: &[u8], bytes: &[u8], yes: &mut u32) -> u32
     ensures { λ r. ⌜ CheckPromise (now (file .entry)) (now (bytes .entry)) (checked r (now (yes .exit))) ⌝ }
 {
-    let row = numbers::of_check(record::check(file, bytes));
-    *yes = row.yes;
-    row.answer
+    *yes = 0;
+    match record::check(file, bytes) {
+        CheckAnswer::Yes => {
+            *yes = 1;
+            0
+        }
+        CheckAnswer::No => 0,
+        CheckAnswer::Refused(refusal) => numbers::number_of(refusal),
+    }
 }
 
 // Prompt: 0 to 8; the codes to light as 64 bits.
@@ -58,7 +89,12 @@ pub extern "C" fn seq_check(file: &[u8], bytes: &[u8], yes: &mut u32) -> u32
 pub extern "C" fn seq_prompt(file: &[u8], state: &[u8], set: &mut u64) -> u32
     ensures { λ r. ⌜ PromptPromise (now (file .entry)) (now (state .entry)) (prompted r (now (set .exit))) ⌝ }
 {
-    let row = numbers::of_prompt(prompt::prompt(file, state));
-    *set = row.set;
-    row.answer
+    *set = 0;
+    match prompt::prompt(file, state) {
+        PromptAnswer::Lit(codes) => {
+            *set = codes;
+            0
+        }
+        PromptAnswer::Refused(refusal) => numbers::number_of(refusal),
+    }
 }

@@ -1,17 +1,39 @@
--- `seqp::seq_prompt` meets its promise: what Prompt answers, shown as numbers. Assumes nothing.
+-- `seqp::seq_prompt` meets its promise: each arm gives the numbers of its answer. Assumes nothing.
 use borrow.Author.Needs.{needs}
-use Rattle.seqp.proofs.Laws.{prompt-shown}
+use mathlib.Core.Path.{refl}
+use Rattle.meaning.specs.Numbers.{prompted, promptNumbers}
+use Rattle.meaning.specs.Promises.{PromptPromise}
+use Rattle.seqp.proofs.Laws.{arm}
 use Rattle.seqp.proofs.seq_prompt.Statement.{statement}
 use Rattle.seqp.proofs.seq_prompt.Tie as tie
 
 prompt-requires : tie.Need-prompt-requires
 prompt-requires c κs = search needs
 
-of-prompt-requires : tie.Need-of-prompt-requires
-of-prompt-requires c κs = search needs
+enum-known-codes : tie.Need-enum-known-codes
+enum-known-codes c = search needs
+
+enum-known-refusal : tie.Need-enum-known-refusal
+enum-known-refusal c = search needs
+
+number-of-requires : tie.Need-number-of-requires
+number-of-requires c κs = search needs
 
 returns : tie.Need-returns
-returns c = prompt-shown _ _ (c .before .prompt .result) (c .of-prompt .result) (c .before .prompt .ensures) (c .of-prompt .ensures)
+unfolding PromptPromise
+returns c = arm promptNumbers (c .before .before .before .prompt .ensures) (c .before .codes .given .1) refl
+
+returns-2 : tie.Need-returns-2
+unfolding PromptPromise
+returns-2 c = arm promptNumbers (c .before .before .before .before .prompt .ensures) (c .before .before .refusal .given .1) (λ i. prompted (c .number-of .ensures i) 0)
 
 pub seq-prompt-spec : {M : Type 1} → statement M
-seq-prompt-spec = tie.close (tie.spec prompt-requires of-prompt-requires returns)
+seq-prompt-spec =
+    tie.close
+    (tie.spec
+    prompt-requires
+    enum-known-codes
+    enum-known-refusal
+    number-of-requires
+    returns
+    returns-2)
