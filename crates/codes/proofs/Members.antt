@@ -5,11 +5,10 @@ use Prim.Native.Nat.{ℕ, suc, _-_, _/_, _%_, _^_, _≤_, _<_}
 use native.Mathlib.Decide.{decLe}
 use native.Mathlib.Nat.{le-antisymm, lt-of-lt-of-le, zero-div}
 use native.Mathlib.Omega.{arith}
-use lib.Bits.{and-lt, or-lt}
-use lib.Pow.{pow-lt, pow-mono, pow-pos}
+use lib.Pow.{pow-lt, pow-mono}
 use Rattle.codes.specs.Codes.{Bounded, Codes, Has, Least, Shared, both, either, limit, nothing, only}
-use Rattle.meaning.proofs.Digits.{digit-of-and, digit-of-or, digit-of-power, digit-past, digit-under-power}
-pub use Rattle.meaning.proofs.CodeSets.{has-or-not, same-codes}
+use Rattle.meaning.proofs.general.Digits.{digit-of-and, digit-of-or, digit-of-power, digit-past, digit-under-power}
+use Rattle.meaning.proofs.general.CodeSets.{has-or-not}
 
 -- ---- which codes are in a set
 
@@ -45,23 +44,7 @@ pub both-has : (a b : Codes) (c : ℕ) → Has (both a b) c ↔ Shared a b c
 unfolding Has both
 both-has a b c = let e = digit-of-and a b c in (λ h. (omega arith, omega arith), λ p. omega arith)
 
--- ---- what is in a set is a code, and sets with the same codes are equal
-
-pub nothing-bounded : Bounded nothing
-unfolding nothing
-nothing-bounded = pow-pos limit
-
-pub only-bounded : (c : ℕ) → c < limit → Bounded (only c)
-unfolding only
-only-bounded c l = pow-lt l
-
-pub either-bounded : (a b : Codes) → Bounded a → Bounded b → Bounded (either a b)
-unfolding either
-either-bounded a b = or-lt limit a b
-
-pub both-bounded : (a b : Codes) → Bounded a → Bounded b → Bounded (both a b)
-unfolding both
-both-bounded a b = and-lt limit a b
+-- ---- what is in a set is a code
 
 pub has-below : (s : Codes) (c : ℕ) → Bounded s → Has s c → c < limit
 unfolding Has
@@ -70,9 +53,6 @@ has-below s c w h = below (decLe limit c)
     below : Dec (limit ≤ c) → c < limit
     below (yes l) = absurd (omega (arith, digit-past s c (lt-of-lt-of-le w (pow-mono l))))
     below (no l) = omega arith
-
-pub no-code : (s : Codes) → Bounded s → ((c : ℕ) → ¬ Has s c) → s ≡ nothing
-no-code s w h = same-codes s nothing w nothing-bounded (λ c. (λ p. absurd (h c p), λ p. absurd (nothing-has c p)))
 
 -- ---- the lowest code of a kind
 

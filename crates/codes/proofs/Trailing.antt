@@ -6,7 +6,7 @@ use native.Mathlib.Nat.{not-suc-le-zero, le-of-suc-le-suc, zero-lt-suc}
 use native.Mathlib.Omega.{arith}
 use lib.Count.{trailingZeros, under}
 use Rattle.codes.specs.Codes.{Bounded, Has, Least, limit}
-use Rattle.meaning.proofs.Digits.{digit-lowest, digit-up}
+use Rattle.meaning.proofs.general.Digits.{digit-lowest, digit-up}
 use Rattle.codes.proofs.Members.{has-below}
 
 -- t is the lowest code in s, and is below k; or none of the codes below k is in s, and t is k

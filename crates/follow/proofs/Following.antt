@@ -12,8 +12,9 @@ use Rattle.meaning.specs.Expr.{Expr}
 use Rattle.meaning.specs.Bytes.{inTwos}
 use Rattle.meaning.specs.File.{Admitted}
 use Rattle.meaning.specs.Promises.{Follows}
-use Rattle.meaning.proofs.Spots.{Spot}
-use Rattle.meaning.proofs.Follows.{VerdictAt, going-follows}
+use Rattle.meaning.specs.theory.Spots.{Spot}
+use Rattle.meaning.specs.theory.Runs.{VerdictAt}
+use Rattle.meaning.proofs.promises.Follows.{going-follows}
 use Rattle.judge.specs.Admission.{Admits}
 use Rattle.judge.specs.declared.Admission.{Admission}
 use Rattle.judge.specs.declared.Admission.the-variants as admission

@@ -12,14 +12,14 @@ use Rattle.meaning.specs.declared.Verdict.the-variants.{Complete, Unfinished}
 use Rattle.meaning.specs.Expr.{Expr, event, size, root, Part}
 use Rattle.meaning.specs.Normal.{nullable}
 use Rattle.meaning.specs.Node.{node}
-use Rattle.meaning.proofs.Place.{Place, nodeOf, CanEnd}
-use Rattle.meaning.proofs.Facts.{so-eqb}
-use Rattle.meaning.proofs.Files.{root-size}
-use Rattle.meaning.proofs.Spots.{Spot, start, behind, CanStop}
-use Rattle.meaning.proofs.Ways.{way-ends}
-use Rattle.meaning.proofs.Runs.{LeadsTo}
-use Rattle.meaning.proofs.EventNodes.{stands-part, no-way-stands}
-use Rattle.meaning.proofs.Follows.{Gone, gone-none, gone-more, gone-done, gone-stuck, VerdictAt, complete-at, unfinished-at}
+use Rattle.meaning.specs.theory.Places.{Place, nodeOf, CanEnd}
+use Rattle.meaning.specs.theory.Spots.{Spot, start, behind, CanStop}
+use Rattle.meaning.specs.theory.Runs.{LeadsTo, VerdictAt, complete-at, unfinished-at}
+use Rattle.meaning.proofs.general.Facts.{so-eqb}
+use Rattle.meaning.proofs.expressions.Parts.{root-size}
+use Rattle.meaning.proofs.places.Ways.{way-ends}
+use Rattle.meaning.proofs.file.EventNodes.{stands-part, no-way-stands}
+use Rattle.meaning.proofs.promises.Follows.{Gone, gone-none, gone-more, gone-done, gone-stuck}
 use Rattle.procedure.specs.Entry.{unpacked, held, kindOf, codeOf, leftOf, lowerOf, upperOf}
 use Rattle.procedure.specs.Tests.{Decides}
 use Rattle.plan.specs.Plan.{Plans, emptyAt, bit}

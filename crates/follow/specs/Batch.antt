@@ -10,9 +10,8 @@ use Rattle.meaning.specs.declared.FollowAnswer.the-variants as follow
 use Rattle.meaning.specs.Expr.{Expr}
 use Rattle.meaning.specs.State.{stateBytes}
 use Rattle.meaning.specs.Promises.{NoneReaches}
-use Rattle.meaning.proofs.Spots.{Spot, Safe}
-use Rattle.meaning.proofs.Runs.{spotState}
-use Rattle.meaning.proofs.Follows.{Going, VerdictAt}
+use Rattle.meaning.specs.theory.Spots.{Spot, Safe}
+use Rattle.meaning.specs.theory.Runs.{spotState, Going, VerdictAt}
 
 -- from the bytes of a spot's state to those of the spot where the run then stands; the state is left where no run reaches it
 pub data Went (e : Expr) (state events : List ℕ) : FollowAnswer → List ℕ → Type 0 where

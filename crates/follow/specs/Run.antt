@@ -5,10 +5,9 @@ use mathlib.Core.List.{List}
 use Prim.Native.Nat.{ℕ, _+_, _≤_, _<_}
 use lib.ListN.{getD}
 use Rattle.meaning.specs.Expr.{Expr, event, Part}
-use Rattle.meaning.proofs.Place.{Place}
-use Rattle.meaning.proofs.Spots.{Spot, behind}
-use Rattle.meaning.proofs.Runs.{LeadsTo, NoWay}
-use Rattle.meaning.proofs.Follows.{Going}
+use Rattle.meaning.specs.theory.Places.{Place}
+use Rattle.meaning.specs.theory.Spots.{Spot, behind}
+use Rattle.meaning.specs.theory.Runs.{LeadsTo, NoWay, Going}
 use Rattle.states.specs.Valid.{AtSpot}
 
 -- r is the lowest number from `from` on whose entry is the one wanted, or n where there is none below n

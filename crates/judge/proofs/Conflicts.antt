@@ -5,7 +5,7 @@ use Prim.Native.Nat.{ℕ, _+_, _≤_, _<_}
 use native.Mathlib.Omega.{arith}
 use Rattle.meaning.specs.Conflict.{Conflict, ConflictAt}
 use Rattle.meaning.specs.Expr.{Expr, size, root, Part, Whole}
-use Rattle.meaning.proofs.Parts.{part-within}
+use Rattle.meaning.proofs.expressions.Parts.{part-within}
 use Rattle.judge.specs.Lowest.{Conflicts, Names, orElse}
 use Rattle.judge.specs.declared.conflict.Found.{Found}
 use Rattle.judge.proofs.Lowest.{Either, Same, Ahead, names-same, names-either}

@@ -1,8 +1,6 @@
 -- The laws that belong to no one function: `Answers`, `Roots` and `Standing` for whoever uses the judge, the others for the proofs
 -- of this crate.
 mod Admissions
-pub mod Answers
-mod Bounds
 mod Conflicts
 mod Joins
 mod Leaves

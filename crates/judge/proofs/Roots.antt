@@ -7,9 +7,9 @@ use Rattle.meaning.specs.Conflict.{ConflictAt, LowestConflict}
 use Rattle.meaning.specs.Expr.{root}
 use Rattle.meaning.specs.Node.{InOrder}
 use Rattle.meaning.specs.Strong.{StronglyDeterministic}
-use Rattle.meaning.proofs.Diverge.{strong-iff-no-conflict}
-use Rattle.meaning.proofs.Files.{holds-bounded}
-use Rattle.meaning.proofs.Parts.{root-size}
+use Rattle.meaning.proofs.determinism.Diverge.{strong-iff-no-conflict}
+use Rattle.meaning.proofs.file.Files.{holds-bounded}
+use Rattle.meaning.proofs.expressions.Parts.{root-size}
 use Rattle.procedure.specs.Entry.{held}
 use Rattle.procedure.specs.Opening.{Filled}
 use Rattle.procedure.proofs.Nodes.{nodes-counted, nodes-listed, nodes-kept}

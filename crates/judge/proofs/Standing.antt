@@ -4,7 +4,7 @@ use Prim.Native.Nat.{ℕ, _-_, _≤_, _<_, _+_}
 use native.Mathlib.Omega.{arith}
 use Rattle.meaning.specs.Expr.{Expr, choice, sequence, size}
 use Rattle.meaning.specs.Node.{Node, InTable, InOrder}
-use Rattle.meaning.proofs.Parts.{root-size}
+use Rattle.meaning.proofs.expressions.Parts.{root-size}
 use Rattle.procedure.specs.Entry.{kindOf, leftOf, lowerOf, upperOf}
 use Rattle.procedure.proofs.Standing.{Pair, at-choice, at-sequence, at-repeat, at-pair, last-order}
 use Rattle.judge.specs.Sets.{SetsOf, SetsAt, Joins, Repeats, TableUpTo}

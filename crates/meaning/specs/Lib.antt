@@ -15,3 +15,4 @@ pub mod Loose
 pub mod Codes
 pub mod Numbers
 pub mod Promises
+pub mod theory

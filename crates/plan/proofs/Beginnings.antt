@@ -10,9 +10,9 @@ use borrow.Author.Tests.{eq-eqb, ne-eqb, le-leb, lt-leb}
 use Rattle.meaning.specs.Expr.{Expr, empty, event, choice, sequence, repeat, Upper, size, root}
 use Rattle.meaning.specs.Node.{Node, node, Stands}
 use Rattle.meaning.specs.Normal.{nullable}
-use Rattle.meaning.proofs.Files.{root-size}
-use Rattle.meaning.proofs.Place.{Place, nodeOf, CanStart}
-use Rattle.meaning.proofs.Ways.{Entry, enters, apart, entry, mapEntry}
+use Rattle.meaning.specs.theory.Places.{Place, nodeOf, CanStart}
+use Rattle.meaning.specs.theory.Ways.{Entry, enters, apart, entry, mapEntry}
+use Rattle.meaning.proofs.expressions.Parts.{root-size}
 use Rattle.procedure.specs.Entry.{kindOf}
 use Rattle.plan.specs.Plan.{beginsAt, startAt, Own, Planned, startsOf}
 

@@ -12,7 +12,7 @@ use lib.Seq.{getD-set-same, getD-set-other}
 use Rattle.meaning.specs.Expr.{Expr, empty, event, choice, sequence, repeat, size, root}
 use Rattle.meaning.specs.Node.{Node, Stands}
 use Rattle.meaning.specs.Normal.{nullable}
-use Rattle.meaning.proofs.Files.{root-size}
+use Rattle.meaning.proofs.expressions.Parts.{root-size}
 use Rattle.procedure.specs.Entry.{held}
 use Rattle.plan.specs.Table.{aboveIn, beginsIn, startIn, rankIn, emptyIn, toldIn}
 use Rattle.plan.specs.Plan.{aboveAt, beginsAt, emptyAt, Own, Told, Planned}

@@ -1,7 +1,6 @@
 -- The laws that belong to no one function.
 pub mod Tests
 pub mod Beginnings
-pub mod Ranks
 mod Downward
 mod Upward
 pub mod Whole

@@ -9,7 +9,7 @@ use lib.Dec.{eqb}
 use lib.ListN.{length}
 use Rattle.meaning.specs.Expr.{Expr, size}
 use Rattle.meaning.specs.Node.{Node, node, isRepeat}
-use Rattle.meaning.proofs.Files.{root-size}
+use Rattle.meaning.proofs.expressions.Parts.{root-size}
 use Rattle.procedure.specs.Entry.{kindOf, leftOf, lowerOf}
 use Rattle.plan.specs.Plan.{aboveAt, beginsAt, startAt, emptyAt}
 use Rattle.plan.specs.Filling.{startWith, emptyOver, emptyWith, tell, linkWith, link, down, UpTo}

@@ -14,7 +14,7 @@ use lib.Seq.{getD-set-same, getD-set-other}
 use Rattle.meaning.specs.Expr.{Expr, empty, event, choice, sequence, repeat, size, root}
 use Rattle.meaning.specs.Node.{Node, node, Stands, repeatsBelow}
 use Rattle.meaning.specs.Normal.{nullable, isZero}
-use Rattle.meaning.proofs.Files.{root-size}
+use Rattle.meaning.proofs.expressions.Parts.{root-size}
 use Rattle.procedure.specs.Entry.{held, kindOf, leftOf}
 use Rattle.plan.specs.Table.{startIn, rankIn, emptyIn}
 use Rattle.plan.specs.Plan.{startAt, emptyAt, bit, Own}

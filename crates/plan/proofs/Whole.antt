@@ -8,12 +8,12 @@ use lib.Dec.{eqb}
 use lib.ListN.{getD}
 use Rattle.meaning.specs.Expr.{Expr, empty, event, choice, sequence, repeat, size, root}
 use Rattle.meaning.specs.Node.{Node, node, Stands, isRepeat, repeatsBelow}
-use Rattle.meaning.proofs.Files.{root-size}
+use Rattle.meaning.proofs.expressions.Parts.{root-size}
 use Rattle.procedure.specs.Entry.{held, kindOf}
 use Rattle.plan.specs.Plan.{aboveAt, top, Planned, Plans, Rises}
 use Rattle.plan.specs.Filling.{UpTo, tell, down}
 use Rattle.plan.proofs.Beginnings.{among}
-use Rattle.plan.proofs.Ranks.{below-rises}
+use Rattle.meaning.proofs.file.Ranks.{below-rises}
 use Rattle.plan.proofs.Downward.{Moves, Ready, moves-tell, told-there, down-part, rank-rest, start-rest, ready-kept}
 
 -- the upward pass, the root told of the top, and the downward pass

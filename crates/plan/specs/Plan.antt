@@ -8,7 +8,7 @@ use lib.ListN.{getD}
 use Rattle.meaning.specs.Expr.{Expr, empty, event, choice, sequence, repeat, size, root}
 use Rattle.meaning.specs.Node.{Stands, repeatsBelow}
 use Rattle.meaning.specs.Normal.{nullable}
-pub use Rattle.meaning.proofs.Stays.{repeats}
+pub use Rattle.meaning.specs.theory.Counts.{repeats}
 use Rattle.procedure.specs.Entry.{held, kindOf}
 use Rattle.plan.specs.Table.{aboveIn, beginsIn, startIn, rankIn, emptyIn}
 

@@ -7,4 +7,3 @@ pub mod Nodes
 mod Openings
 mod Orders
 pub mod Standing
-mod Trailer

@@ -6,7 +6,8 @@ use native.Mathlib.Omega.{arith}
 use Rattle.meaning.specs.Expr.{size}
 use Rattle.meaning.specs.Node.{InTable, Stands}
 use Rattle.meaning.specs.File.{nodeAt}
-use Rattle.meaning.proofs.Files.{root-size, stands-same}
+use Rattle.meaning.proofs.expressions.Parts.{root-size}
+use Rattle.meaning.proofs.file.Files.{stands-same}
 use Rattle.procedure.specs.Entry.{held}
 use Rattle.procedure.specs.Opening.{Filled}
 pub use Rattle.procedure.proofs.Lines.{bounds-kept, code-kept, event-kept, kind-kept, upper-kept}

@@ -6,7 +6,8 @@ use native.Mathlib.Omega.{arith}
 use Rattle.meaning.specs.Node.{Node, InOrder, InTable, repeatsBelow}
 use Rattle.meaning.specs.File.{Framed, Refused, TableBelow, WellFormed, by-order, by-record, by-repeats, by-root, count, nodeAt}
 use Rattle.meaning.specs.declared.Refusal.the-variants.{Order, Record, Repeats}
-use Rattle.meaning.proofs.Files.{root-size, stands-same}
+use Rattle.meaning.proofs.expressions.Parts.{root-size}
+use Rattle.meaning.proofs.file.Files.{stands-same}
 use Rattle.procedure.specs.Entry.{Tied, held}
 use Rattle.procedure.specs.Opening.{Filled}
 use Rattle.procedure.specs.Parts.{Begins, OrderTested, broken, late, whole}

@@ -9,7 +9,8 @@ use lib.ListN.{length, getD, set}
 use lib.Seq.{getD-set-same, getD-set-other}
 use Rattle.meaning.specs.Expr.{Expr, empty, event, choice, sequence, repeat, size, root}
 use Rattle.meaning.specs.Node.{Node, node, InTable, InOrder, Stands, bound, empty-line, event-line, choice-line, sequence-line, repeat-line}
-use Rattle.meaning.proofs.Files.{root-size, stands-unique}
+use Rattle.meaning.proofs.expressions.Parts.{root-size}
+use Rattle.meaning.proofs.file.Files.{stands-unique}
 use Rattle.procedure.specs.Entry.{kindOf, leftOf, rightOf, bodyOf, lowerOf, upperOf}
 use Rattle.procedure.specs.Parts.{Begins, OrderTested, OrderedBelow, Started, late, whole}
 

@@ -4,7 +4,7 @@ use Prim.Native.Nat.{ℕ, _<_}
 use native.Mathlib.Omega.{arith}
 use Rattle.meaning.specs.Expr.{Expr, event, size, Part}
 use Rattle.meaning.specs.Node.{Node, node, InTable, empty-line, event-line, choice-line, sequence-line, repeat-line, Stands}
-use Rattle.meaning.proofs.EventNodes.{stands-part}
+use Rattle.meaning.proofs.file.EventNodes.{stands-part}
 use Rattle.procedure.specs.Entry.{kindOf, codeOf}
 
 -- a record of kind 1 that keeps to the table is that of an event

@@ -10,13 +10,14 @@ use Rattle.meaning.specs.Codes.{Has}
 use Rattle.meaning.specs.Expr.{Expr, event, size, Part, Bounded}
 use Rattle.meaning.specs.Node.{InOrder, InTable, Stands}
 use Rattle.meaning.specs.Promises.{Lights}
-use Rattle.meaning.proofs.Directly.{part-place}
-use Rattle.meaning.proofs.EventNodes.{part-stands}
-use Rattle.meaning.proofs.Files.{table-bounded}
-use Rattle.meaning.proofs.FirstWorded.{first-iff-worded}
-use Rattle.meaning.proofs.Loosened.{Near, lights-iff-near}
-use Rattle.meaning.proofs.Parts.{root-size, part-within}
-use Rattle.meaning.proofs.Place.{Place, nodeOf}
+use Rattle.meaning.specs.theory.Near.{Near}
+use Rattle.meaning.specs.theory.Places.{Place, nodeOf}
+use Rattle.meaning.proofs.places.Directly.{part-place}
+use Rattle.meaning.proofs.file.EventNodes.{part-stands}
+use Rattle.meaning.proofs.file.Files.{table-bounded}
+use Rattle.meaning.proofs.expressions.FirstWorded.{first-iff-worded}
+use Rattle.meaning.proofs.places.Loosened.{lights-iff-near}
+use Rattle.meaning.proofs.expressions.Parts.{root-size, part-within}
 use Rattle.procedure.specs.Entry.{held, kindOf, codeOf}
 use Rattle.judge.specs.Sets.{SetsAt, TableUpTo}
 use Rattle.judge.specs.declared.sets.Sets.{Sets}

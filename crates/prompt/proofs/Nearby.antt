@@ -11,10 +11,10 @@ use Rattle.meaning.specs.Expr.{Expr, empty, event, choice, sequence, repeat, Up
 use Rattle.meaning.specs.Loose.{many}
 use Rattle.meaning.specs.Node.{Node, Stands}
 use Rattle.meaning.specs.Normal.{nullable}
-use Rattle.meaning.proofs.Loosened.{there, near}
-use Rattle.meaning.proofs.Parts.{root-size}
-use Rattle.meaning.proofs.Place.{Place, nodeOf}
-use Rattle.meaning.proofs.Ways.{Entry, enters, apart, entry, Way, turns, ends, stuck, mapWay, turnOr, climb, Turned}
+use Rattle.meaning.specs.theory.Near.{there, near}
+use Rattle.meaning.specs.theory.Places.{Place, nodeOf}
+use Rattle.meaning.specs.theory.Ways.{Entry, enters, apart, entry, Way, turns, ends, stuck, mapWay, turnOr, climb, Turned}
+use Rattle.meaning.proofs.expressions.Parts.{root-size}
 use Rattle.procedure.specs.Entry.{held, kindOf}
 use Rattle.plan.proofs.Tests.{bit-one}
 use Rattle.plan.specs.Plan.{aboveAt, emptyAt, top, Own, Planned, startsOf}

@@ -9,16 +9,16 @@ use Rattle.meaning.specs.declared.Refusal.the-variants.{Unreached}
 use Rattle.meaning.specs.declared.PromptAnswer.{PromptAnswer}
 use Rattle.meaning.specs.declared.PromptAnswer.the-variants as prompt
 use Rattle.meaning.specs.Bytes.{twoAt}
-use Rattle.meaning.proofs.Twos.{first-two}
+use Rattle.meaning.specs.theory.Places.{codeOf, nodeOf}
+use Rattle.meaning.specs.theory.Spots.{Spot, start, behind}
+use Rattle.meaning.proofs.general.Twos.{first-two}
 use Rattle.meaning.specs.Codes.{Has}
 use Rattle.meaning.specs.Expr.{Expr}
 use Rattle.meaning.specs.File.{Admitted}
 use Rattle.meaning.specs.Promises.{Lights, Prompts}
-use Rattle.meaning.proofs.EventNodes.{part-stands}
-use Rattle.meaning.proofs.Directly.{place-part}
-use Rattle.meaning.proofs.Place.{codeOf, nodeOf}
-use Rattle.meaning.proofs.Spots.{Spot, start, behind}
-use Rattle.meaning.proofs.StateBytes.{bytes-reached-iff}
+use Rattle.meaning.proofs.file.EventNodes.{part-stands}
+use Rattle.meaning.proofs.places.Directly.{place-part}
+use Rattle.meaning.proofs.state.StateBytes.{bytes-reached-iff}
 use Rattle.procedure.specs.Entry.{held, kindOf}
 use Rattle.judge.specs.Admission.{Admits}
 use Rattle.judge.specs.declared.Admission.{Admission}

@@ -9,8 +9,8 @@ use Rattle.meaning.specs.Codes.{Has}
 use Rattle.meaning.specs.Expr.{Expr, event, size, Part}
 use Rattle.meaning.specs.Node.{Node, InTable, Stands}
 use Rattle.meaning.specs.Promises.{Lights}
-use Rattle.meaning.proofs.Loosened.{Near}
-use Rattle.meaning.proofs.Place.{Place, nodeOf}
+use Rattle.meaning.specs.theory.Near.{Near}
+use Rattle.meaning.specs.theory.Places.{Place, nodeOf}
 use Rattle.procedure.specs.Entry.{held, kindOf, upperOf}
 use Rattle.plan.specs.Plan.{emptyAt, startsOf, Plans}
 

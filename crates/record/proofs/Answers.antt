@@ -14,8 +14,8 @@ use Rattle.meaning.specs.Node.{Node}
 use Rattle.meaning.specs.Promises.{Checks}
 use Rattle.meaning.specs.Reading.{Item, Reading}
 use Rattle.meaning.specs.Record.{itemNumber, recordBytes}
-use Rattle.meaning.proofs.Files.{root-size}
-use Rattle.meaning.proofs.Records.{names-narrow, reading-names}
+use Rattle.meaning.proofs.expressions.Parts.{root-size}
+use Rattle.meaning.proofs.expressions.Records.{names-narrow, reading-names}
 use Rattle.procedure.specs.declared.Opened.{Opened}
 use Rattle.procedure.specs.declared.Opened.the-variants as opened
 use Rattle.procedure.specs.Entry.{held}
@@ -24,7 +24,7 @@ use Rattle.procedure.specs.Parts.{Begins, OrderedBelow}
 use Rattle.procedure.proofs.Nodes.{nodes-counted, nodes-listed}
 use Rattle.record.specs.declared.walk.Taken.the-variants.{To, Stuck}
 use Rattle.record.specs.Walk.{itemsIn, from, nowhere, TakesAt, Nulls, Ready, RecordOf}
-use Rattle.meaning.proofs.Twos.{twos-length}
+use Rattle.meaning.proofs.general.Twos.{twos-length}
 use Rattle.record.proofs.Bytes.{items-length, items-of-twos, twos-of-items}
 use Rattle.record.proofs.Empties.{nulls-fewer}
 use Rattle.procedure.proofs.Standing.{inner-order}

@@ -9,7 +9,7 @@ use Rattle.meaning.specs.Expr.{Upper, Within}
 use Rattle.meaning.specs.Lists.{Power, none, more, Times, times}
 use Rattle.meaning.specs.Reading.{Item, opening, closing, codes, Block, block}
 use Rattle.meaning.specs.Record.{itemNumber}
-use Rattle.meaning.proofs.Facts.{power-snoc}
+use Rattle.meaning.proofs.general.Facts.{power-snoc}
 use Rattle.record.specs.Walk.{Outside, from, nowhere, Takes}
 use Rattle.record.proofs.Takes.{map-append}
 

@@ -7,7 +7,7 @@ use borrow.Author.Tests.{eq-eqb, ne-eqb}
 use lib.Dec.{leb}
 use Rattle.meaning.specs.Expr.{upto, endless, Within}
 use Rattle.meaning.specs.Node.{bound}
-use Rattle.meaning.proofs.Facts.{so-leb, not-leb}
+use Rattle.meaning.proofs.general.Facts.{so-leb, not-leb}
 use Rattle.procedure.specs.Tests.{Decides}
 
 bound-none : (u : ℕ) → u ≡ 65535 → bound u ≡ endless

@@ -6,7 +6,7 @@ use native.Mathlib.Omega.{arith}
 use lib.ListN.{length, drop, getD, List·getD-eq-default}
 use native.Mathlib.Numerals.{add-one}
 use Rattle.meaning.specs.Bytes.{inTwos}
-use Rattle.meaning.proofs.Twos.{Narrow}
+use Rattle.meaning.specs.theory.Counts.{Narrow}
 use Rattle.record.specs.Walk.{itemsIn, noItem, Inside, Outside}
 
 pub items-length : (b : List ℕ) → length (itemsIn b) ≡ length b / 2

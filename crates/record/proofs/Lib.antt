@@ -5,7 +5,6 @@ pub mod Blocks
 pub mod Bounds
 mod Bytes
 pub mod Empties
-pub mod Heads
 pub mod Puts
 mod Stays
 mod Takes

@@ -18,7 +18,7 @@ use Rattle.record.specs.declared.walk.Taken.the-variants.{To, Stuck}
 use Rattle.record.specs.Walk.{noItem, from, Takes, restOf, TakesAt, Ends, NullAt, Nulls}
 use Rattle.record.proofs.Blocks.{Stay, stay-none, stay-more, stay-broken, stay-ended, stay-off, no-body, no-closing, no-event}
 use Rattle.record.proofs.Bytes.{item-there, begins-with}
-use Rattle.record.proofs.Heads.{reading-long}
+use Rattle.meaning.proofs.expressions.ReadingHeads.{reading-long}
 use Rattle.procedure.proofs.Standing.{at-repeat}
 
 -- k blocks of the repeat at node i stand from `place` to `at`, and any blocks are these and more

@@ -8,7 +8,7 @@ use Rattle.meaning.specs.Lists.{Nil, nil, One, one, Or, left, right, Cat, cat}
 use Rattle.meaning.specs.Reading.{Item, place, opening, closing}
 use Rattle.meaning.specs.Record.{itemNode, itemNumber}
 use Rattle.record.specs.Walk.{Inside, Outside, Rest, from, nowhere, Eaten, Takes}
-use Rattle.record.proofs.Heads.{Heads}
+use Rattle.meaning.proofs.expressions.ReadingHeads.{Heads}
 
 -- ---- the node that a number names
 

@@ -11,7 +11,7 @@ use Rattle.meaning.specs.Expr.{Expr, empty, event, size, root}
 use Rattle.meaning.specs.Node.{Node, Stands}
 use Rattle.meaning.specs.Normal.{nullable}
 use Rattle.meaning.specs.Reading.{Item, Reading}
-use Rattle.meaning.proofs.Files.{root-size}
+use Rattle.meaning.proofs.expressions.Parts.{root-size}
 use Rattle.procedure.specs.Entry.{kindOf, leftOf}
 use Rattle.procedure.specs.Parts.{Begins}
 use Rattle.procedure.specs.Tests.{Decides}
@@ -20,7 +20,7 @@ use Rattle.record.specs.declared.walk.Taken.the-variants.{To, Stuck}
 use Rattle.record.specs.Walk.{noItem, Inside, from, nowhere, Takes, restOf, TakesAt, Onward, Ends, NullAt, Nulls, Ready}
 use Rattle.record.proofs.Bytes.{item-there, outside-at}
 use Rattle.record.proofs.Empties.{nulls-fewer}
-use Rattle.record.proofs.Heads.{Heads, reading-heads, empty-reading, reading-empty}
+use Rattle.meaning.proofs.expressions.ReadingHeads.{Heads, reading-heads, empty-reading, reading-empty}
 use Rattle.procedure.proofs.Standing.{part-start, at-leaf, at-choice, at-sequence, at-repeat, at-pair}
 use Rattle.record.proofs.Takes.{takes-nothing, takes-nowhere, empty-nowhere, event-taken, event-nowhere, choice-left, choice-right, sequence-both, sequence-nowhere}
 

@@ -8,7 +8,7 @@ use Rattle.meaning.specs.declared.JudgeAnswer.{JudgeAnswer}
 use Rattle.meaning.specs.declared.JudgeAnswer.the-variants as judge
 use Rattle.meaning.specs.Numbers.{row, judgeNumbers}
 use Rattle.meaning.specs.Promises.{Judges}
-use Rattle.meaning.proofs.Refusals.{barred-node-small}
+use Rattle.meaning.proofs.file.Refusals.{barred-node-small}
 
 -- an arm that knows which case it is in keeps the promise: an answer that the call may give, and its numbers
 pub arm : {A B : Type 0} {P : A → Type 0} (f : A → B) {x y : A} {out : B} → P x → x ≡ y → out ≡ f y → (a : A) × P a × (out ≡ f a)

@@ -10,13 +10,12 @@ use Rattle.meaning.specs.Expr.{Expr, empty, event, choice, sequence, repeat, si
 use Rattle.meaning.specs.Bytes.{inTwos}
 use Rattle.meaning.specs.State.{padded, stateBytes}
 use Rattle.meaning.specs.Promises.{NoneReaches}
-use Rattle.meaning.proofs.Place.{Place}
-use Rattle.meaning.proofs.Stays.{repeats, zeros, placeCounts}
-use Rattle.meaning.proofs.States.{startState}
-use Rattle.meaning.proofs.Spots.{Spot, start, behind, Safe}
-use Rattle.meaning.proofs.Runs.{spotState}
-use Rattle.meaning.proofs.Twos.{twos-length}
-use Rattle.meaning.proofs.StateBytes.{Small, bytes-reached-iff, zeros-all, zeros-long, place-long, start-counts, spot-long, numbers-narrow}
+use Rattle.meaning.specs.theory.Places.{Place}
+use Rattle.meaning.specs.theory.Counts.{repeats, zeros, placeCounts, startState, Small}
+use Rattle.meaning.specs.theory.Spots.{Spot, start, behind, Safe}
+use Rattle.meaning.specs.theory.Runs.{spotState}
+use Rattle.meaning.proofs.general.Twos.{twos-length}
+use Rattle.meaning.proofs.state.StateBytes.{bytes-reached-iff, zeros-all, zeros-long, place-long, start-counts, spot-long, numbers-narrow}
 use Rattle.steps.specs.Counts.{Clear, Held, Marked}
 use Rattle.states.specs.StateBytes.{Decoded}
 use Rattle.states.specs.Valid.{AtSpot, CanStand}

@@ -7,12 +7,13 @@ use lib.ListN.{length}
 use Rattle.meaning.specs.Expr.{Expr, size}
 use Rattle.meaning.specs.File.{Admitted}
 use Rattle.meaning.specs.State.{stateBytes}
-use Rattle.meaning.proofs.Marks.{node-below}
-use Rattle.meaning.proofs.Files.{holds-bounded}
-use Rattle.meaning.proofs.Spots.{Spot, start, behind, Safe}
-use Rattle.meaning.proofs.Runs.{spotState}
-use Rattle.meaning.proofs.Twos.{twos-length}
-use Rattle.meaning.proofs.StateBytes.{repeats-all, few-counters, small-counters}
+use Rattle.meaning.specs.theory.Spots.{Spot, start, behind, Safe}
+use Rattle.meaning.specs.theory.Runs.{spotState}
+use Rattle.meaning.proofs.places.Marks.{node-below}
+use Rattle.meaning.proofs.file.Files.{holds-bounded}
+use Rattle.meaning.proofs.general.Twos.{twos-length}
+use Rattle.meaning.proofs.file.Ranks.{repeats-all}
+use Rattle.meaning.proofs.state.StateBytes.{few-counters, small-counters}
 use Rattle.procedure.specs.Entry.{held}
 use Rattle.procedure.proofs.Nodes.{nodes-counted, nodes-listed}
 use Rattle.judge.specs.Admission.{Entered, Admits}

@@ -13,15 +13,16 @@ use Rattle.meaning.specs.Expr.{Expr, empty, event, choice, sequence, repeat, Up
 use Rattle.meaning.specs.Node.{Node, node, bound, Stands, repeatsBelow}
 use Rattle.meaning.specs.Normal.{isZero, nullable, low}
 use Rattle.meaning.specs.State.{stop}
-use Rattle.meaning.proofs.Place.{Place, nodeOf, Sound}
-use Rattle.meaning.proofs.Marks.{node-from, node-below}
-use Rattle.meaning.proofs.States.{most, stop-within, most-within, most-stop}
+use Rattle.meaning.specs.theory.Places.{Place, nodeOf, Sound}
+use Rattle.meaning.specs.theory.Counts.{most}
+use Rattle.meaning.proofs.places.Marks.{node-from, node-below}
+use Rattle.meaning.proofs.state.States.{stop-within, most-within, most-stop}
 use Rattle.procedure.specs.Entry.{held, kindOf}
 use Rattle.plan.specs.Table.{startIn, emptyIn}
 use Rattle.plan.specs.Plan.{rankAt, repeats, bit, Own}
 use Rattle.steps.specs.Counts.{Clear, Held}
 use Rattle.states.specs.Valid.{mostOf, fitsIn, rightAt, AllRight, ClearFrom}
-use Rattle.plan.proofs.Ranks.{repeats-past}
+use Rattle.meaning.proofs.file.Ranks.{repeats-past}
 use Rattle.states.proofs.StateBytes.{below-or-from}
 
 -- ---- what holds of a row of numbers

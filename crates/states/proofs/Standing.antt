@@ -7,13 +7,13 @@ use native.Mathlib.Omega.{arith}
 use lib.ListN.{length}
 use Rattle.meaning.specs.Expr.{Expr}
 use Rattle.meaning.specs.Node.{isRepeat, repeatsBelow}
-use Rattle.meaning.proofs.Place.{Place, nodeOf, Sound}
-use Rattle.meaning.proofs.Parts.{root-size}
-use Rattle.meaning.proofs.Marks.{node-below}
-use Rattle.meaning.proofs.Directly.{place-part}
-use Rattle.meaning.proofs.EventNodes.{part-stands}
-use Rattle.meaning.proofs.StateBytes.{more-below, repeats-all}
-use Rattle.meaning.proofs.Spots.{Spot, start, behind, Safe}
+use Rattle.meaning.specs.theory.Places.{Place, nodeOf, Sound}
+use Rattle.meaning.specs.theory.Spots.{Spot, start, behind, Safe}
+use Rattle.meaning.proofs.expressions.Parts.{root-size}
+use Rattle.meaning.proofs.places.Marks.{node-below}
+use Rattle.meaning.proofs.places.Directly.{place-part}
+use Rattle.meaning.proofs.file.EventNodes.{part-stands}
+use Rattle.meaning.proofs.file.Ranks.{more-below, repeats-all}
 use Rattle.procedure.specs.Entry.{held, kindOf}
 use Rattle.procedure.specs.Tests.{Decides}
 use Rattle.plan.specs.Plan.{rankAt, repeats, Plans}

@@ -9,7 +9,8 @@ use borrow.Author.Count.{below-more}
 use lib.ListN.{length, getD, set, length-set}
 use lib.Seq.{getD-set-same, getD-set-other}
 use Rattle.meaning.specs.Bytes.{byteAt, twoAt, inTwos}
-use Rattle.meaning.proofs.Twos.{Narrow, narrow-each, narrow-unique}
+use Rattle.meaning.specs.theory.Counts.{Narrow}
+use Rattle.meaning.proofs.general.Twos.{narrow-each, narrow-unique}
 use Rattle.states.specs.StateBytes.{Decoded}
 
 -- a number is below another, or it is not

@@ -4,7 +4,7 @@ use mathlib.Core.List.{List, _∷_}
 use Prim.Native.Nat.{ℕ}
 use lib.ListN.{length}
 use Rattle.meaning.specs.Bytes.{inTwos}
-use Rattle.meaning.proofs.Twos.{Narrow}
+use Rattle.meaning.specs.theory.Counts.{Narrow}
 
 -- the bytes hold the node and the 32 counters, each in two bytes
 pub record Decoded (bytes : List ℕ) (node : ℕ) (counts : List ℕ) : Type 0 where

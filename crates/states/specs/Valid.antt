@@ -7,9 +7,9 @@ use lib.Dec.{eqb, leb, ltb}
 use lib.ListN.{getD}
 use Rattle.meaning.specs.Expr.{Expr}
 use Rattle.meaning.specs.Node.{Node}
-use Rattle.meaning.proofs.Place.{nodeOf}
-use Rattle.meaning.proofs.Spots.{Spot, start, behind, Safe}
-pub use Rattle.meaning.proofs.StateBytes.{Small}
+use Rattle.meaning.specs.theory.Places.{nodeOf}
+use Rattle.meaning.specs.theory.Spots.{Spot, start, behind, Safe}
+pub use Rattle.meaning.specs.theory.Counts.{Small}
 use Rattle.procedure.specs.Entry.{held, kindOf, lowerOf, upperOf}
 use Rattle.meaning.specs.Promises.{NoneReaches}
 use Rattle.states.specs.declared.valid.Read.{Read}

@@ -14,9 +14,9 @@ use Rattle.meaning.specs.Expr.{Expr, empty, event, choice, sequence, repeat, Up
 use Rattle.meaning.specs.Node.{Node, node, Stands, repeatsBelow}
 use Rattle.meaning.specs.Normal.{nullable, low}
 use Rattle.meaning.specs.State.{stop}
-use Rattle.meaning.proofs.Files.{root-size}
-use Rattle.meaning.proofs.Place.{Place, nodeOf, CanStart}
-use Rattle.meaning.proofs.Ways.{turns, ends, stuck, another, way}
+use Rattle.meaning.specs.theory.Places.{Place, nodeOf, CanStart}
+use Rattle.meaning.specs.theory.Ways.{turns, ends, stuck, another, way}
+use Rattle.meaning.proofs.expressions.Parts.{root-size}
 use Rattle.procedure.specs.Entry.{held, kindOf, lowerOf, upperOf}
 use Rattle.steps.specs.declared.climb.Look.the-variants.{Turns, On, Stops}
 use Rattle.steps.specs.declared.climb.Turn.{Turn}
@@ -26,7 +26,7 @@ use Rattle.steps.specs.Counts.{Clear, Held, Sets, done, next, oneMore, r
 use Rattle.steps.specs.Climb.{lookInto, lookRepeat, lookOf, Climbs, past, turns, stops, on}
 use Rattle.plan.proofs.Tests.{bit-one}
 use Rattle.plan.proofs.Beginnings.{Starts, does, does-not, Target, starts-by-test}
-use Rattle.plan.proofs.Ranks.{repeats-past}
+use Rattle.meaning.proofs.file.Ranks.{repeats-past}
 use Rattle.steps.proofs.Counting.{Beside, entered, rank-of-repeat}
 
 -- ---- the bounds as written, and what a stopped counter still tells

@@ -12,10 +12,10 @@ use Rattle.meaning.specs.Expr.{Expr, empty, event, choice, sequence, repeat, Up
 use Rattle.meaning.specs.Node.{Stands, repeatsBelow}
 use Rattle.meaning.specs.Normal.{nullable, low}
 use Rattle.meaning.specs.State.{stop}
-use Rattle.meaning.proofs.Place.{Place, nodeOf, CanStart}
+use Rattle.meaning.specs.theory.Places.{Place, nodeOf, CanStart}
 use Rattle.procedure.specs.Entry.{held, kindOf}
 use Rattle.plan.specs.Plan.{aboveAt, rankAt, repeats, Planned}
-use Rattle.plan.proofs.Ranks.{below-rises, repeats-past}
+use Rattle.meaning.proofs.file.Ranks.{below-rises, repeats-past}
 use Rattle.steps.specs.Counts.{Clear, Held, marked, Sets, done, next}
 
 -- ---- a part's counters depend on its ranks alone

@@ -8,9 +8,9 @@ use native.Mathlib.Omega.{arith}
 use lib.Dec.{eqb}
 use lib.ListN.{length, set, length-set}
 use Rattle.meaning.specs.Expr.{Expr, root}
-use Rattle.meaning.proofs.Files.{root-size}
-use Rattle.meaning.proofs.Place.{Place, nodeOf}
-use Rattle.meaning.proofs.Ways.{Way, turns, ends, stuck, way}
+use Rattle.meaning.specs.theory.Places.{Place, nodeOf}
+use Rattle.meaning.specs.theory.Ways.{Way, turns, ends, stuck, way}
+use Rattle.meaning.proofs.expressions.Parts.{root-size}
 use Rattle.procedure.specs.Entry.{held, kindOf}
 use Rattle.steps.specs.declared.climb.Turn.{Turn}
 use Rattle.steps.specs.declared.climb.Turn.the-variants.{At, Ends, Stuck}

@@ -9,7 +9,7 @@ use lib.ListN.{length, getD, set}
 use Rattle.meaning.specs.Expr.{Expr, empty, event, choice, sequence, repeat}
 use Rattle.meaning.specs.Normal.{nullable, low}
 use Rattle.meaning.specs.State.{stop}
-use Rattle.meaning.proofs.Place.{Place}
+use Rattle.meaning.specs.theory.Places.{Place}
 use Rattle.procedure.specs.Entry.{held, kindOf, lowerOf, upperOf}
 use Rattle.plan.specs.Plan.{aboveAt, startAt, rankAt, emptyAt, repeats}
 

@@ -4,8 +4,8 @@ use mathlib.Core.Bool.{Bool, true, false}
 use mathlib.Core.List.{List}
 use Prim.Native.Nat.{ℕ}
 use Rattle.meaning.specs.Expr.{Expr}
-use Rattle.meaning.proofs.Place.{Place, nodeOf}
-use Rattle.meaning.proofs.Ways.{entry, enters, apart, way, turns, ends}
+use Rattle.meaning.specs.theory.Places.{Place, nodeOf}
+use Rattle.meaning.specs.theory.Ways.{entry, enters, apart, way, turns, ends}
 use Rattle.steps.specs.Counts.{Marked}
 
 -- from place p to event node q, with the counters c before and d after: yes exactly if the way turns to a place, whose counters d are

@@ -2,7 +2,7 @@
 ghost use mathlib.Core.Path.{_≡_};
 ghost use Prim.Native.Nat.{_<_};
 ghost use Rattle.meaning.specs.Expr.{Expr};
-ghost use Rattle.meaning.proofs.Place.{Place, nodeOf};
+ghost use Rattle.meaning.specs.theory.Places.{Place, nodeOf};
 ghost use Rattle.procedure.specs.Entry.{held, kindOf};
 ghost use Rattle.plan.specs.Plan.{Plans};
 ghost use Rattle.steps.specs.Counts.{Marked, Unmarked};

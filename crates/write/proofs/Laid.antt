@@ -9,7 +9,7 @@ use Rattle.meaning.specs.Expr.{Expr, root}
 use Rattle.meaning.specs.Node.{Node, Stands}
 use Rattle.meaning.specs.Reading.{Item, Reading, codes}
 use Rattle.meaning.specs.Record.{itemNumber}
-use Rattle.meaning.proofs.Unique.{Free}
+use Rattle.meaning.specs.theory.Conflicts.{Free}
 use Rattle.write.specs.declared.lay.Laid.{Laid}
 use Rattle.write.specs.declared.lay.Laid.the-variants.{To, Stuck}
 use Rattle.record.specs.Put.{puts}

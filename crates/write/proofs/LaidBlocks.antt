@@ -11,12 +11,12 @@ use Rattle.meaning.specs.Lists.{Power, none, Times, times}
 use Rattle.meaning.specs.Normal.{nullable, low}
 use Rattle.meaning.specs.Reading.{Item, codes, Block, block, Reading}
 use Rattle.meaning.specs.Sets.{First}
-use Rattle.meaning.proofs.Facts.{append-cut, power-snoc, within-le}
-use Rattle.meaning.proofs.Items.{codes-append, codes-block, events-append}
-use Rattle.meaning.proofs.Unique.{Free}
+use Rattle.meaning.specs.theory.Conflicts.{Free}
+use Rattle.meaning.proofs.general.Facts.{append-cut, power-snoc, within-le}
+use Rattle.meaning.proofs.expressions.Items.{codes-append, codes-block, events-append}
 use Rattle.write.specs.Lay.{Parted, from, nowhere, Lays}
 use Rattle.record.proofs.Blocks.{blockOf, by-block}
-use Rattle.record.proofs.Heads.{blocks-first, reading-first}
+use Rattle.meaning.proofs.expressions.ReadingHeads.{blocks-first, reading-first}
 use Rattle.write.proofs.Lays.{by-first, same-rest}
 
 -- so many blocks of the repeat with body b, which stands from s on

@@ -14,8 +14,8 @@ use Rattle.meaning.specs.Node.{InOrder, Node}
 use Rattle.meaning.specs.Reading.{Item, place, Reading}
 use Rattle.meaning.specs.Record.{itemNumber}
 use Rattle.meaning.specs.Sets.{First}
-use Rattle.meaning.proofs.Files.{root-size}
-use Rattle.meaning.proofs.Unique.{Free}
+use Rattle.meaning.specs.theory.Conflicts.{Free}
+use Rattle.meaning.proofs.expressions.Parts.{root-size}
 use Rattle.procedure.specs.Entry.{kindOf, leftOf}
 use Rattle.procedure.specs.Tests.{Decides}
 use Rattle.write.specs.declared.lay.Laid.{Laid}

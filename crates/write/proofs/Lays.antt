@@ -12,11 +12,11 @@ use Rattle.meaning.specs.Lists.{one, One, Or, left, right, Cat, cat}
 use Rattle.meaning.specs.Normal.{nullable}
 use Rattle.meaning.specs.Reading.{Item, place, codes, Reading}
 use Rattle.meaning.specs.Sets.{First, After}
-use Rattle.meaning.proofs.Facts.{append-cut}
-use Rattle.meaning.proofs.Items.{codes-append, events-append, no-event-append}
-use Rattle.meaning.proofs.Unique.{Free}
+use Rattle.meaning.specs.theory.Conflicts.{Free}
+use Rattle.meaning.proofs.general.Facts.{append-cut}
+use Rattle.meaning.proofs.expressions.Items.{codes-append, events-append, no-event-append}
 use Rattle.write.specs.Lay.{Parted, Rest, from, nowhere, Eaten, Lays}
-use Rattle.record.proofs.Heads.{empty-reading, reading-first, no-codes, no-codes-null}
+use Rattle.meaning.proofs.expressions.ReadingHeads.{empty-reading, reading-first, no-codes, no-codes-null}
 
 -- codes are none, or begin with one
 pub by-first : {C : Type 0} (w : List ℕ) → (w ≡ [] → C) → ((c : ℕ) (u : List ℕ) → w ≡ c ∷ u → C) → C

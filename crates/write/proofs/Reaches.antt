@@ -2,10 +2,10 @@
 use mathlib.Core.Path.{_≡_, ap, _∙_}
 use mathlib.Core.List.{List}
 use Prim.Native.Nat.{ℕ, _+_, _-_, _*_, _≤_, _<_}
-use native.Mathlib.Nat.{add-mul, mul-add, mul-le-mul, mul-le-mul-left}
+use native.Mathlib.Nat.{add-mul, mul-add, mul-le-mul-left}
 use native.Mathlib.Omega.{arith}
 use lib.ListN.{length}
-use Rattle.write.specs.Lay.{Room, reach}
+use Rattle.write.specs.Lay.{reach}
 
 -- what a part reaches in a run, by the rest of the run
 spread : (i j d n : ℕ) → i ≡ j + d → (2 * i + 1) * n ≡ (2 * j + 1) * n + 2 * d * n
@@ -53,10 +53,3 @@ module _ (run : List ℕ) (i at to : ℕ) where
       let f = spread i (i - 1) 1 (length run - at) (omega arith) in
       let k = spread i (i - 1) 1 (length run - a) (omega arith) in
       omega arith
-
--- the walk may begin with a run that is not too long
-pub room-starts : (run : List ℕ) (i : ℕ) → i < 512 → length run ≤ 65536 → Room run i 0 0
-unfolding reach
-room-starts run i small short =
-    let m = mul-le-mul {n₁ = 2 * i + 1} {m₁ = length run - 0} {n₂ = 1023} {m₂ = 65536} (omega arith) (omega arith) in
-    record { short = short; inside = omega arith; fits = omega arith }

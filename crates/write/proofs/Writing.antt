@@ -15,11 +15,12 @@ use Rattle.meaning.specs.Node.{InTable, Stands}
 use Rattle.meaning.specs.Promises.{Writes}
 use Rattle.meaning.specs.Reading.{Item, Reading, codes}
 use Rattle.meaning.specs.Record.{itemNumber, recordBytes}
-use Rattle.meaning.proofs.Diverge.{strong-no-conflict}
-use Rattle.meaning.proofs.Files.{holds-bounded}
-use Rattle.meaning.proofs.OneRecord.{reading-unique}
-use Rattle.meaning.proofs.Unique.{Free, free-iff-no-conflict}
-use Rattle.meaning.proofs.WordReading.{word-iff-reading}
+use Rattle.meaning.specs.theory.Conflicts.{Free}
+use Rattle.meaning.proofs.determinism.Diverge.{strong-no-conflict}
+use Rattle.meaning.proofs.file.Files.{holds-bounded}
+use Rattle.meaning.proofs.determinism.OneRecord.{reading-unique}
+use Rattle.meaning.proofs.determinism.Unique.{free-iff-no-conflict}
+use Rattle.meaning.proofs.expressions.WordReading.{word-iff-reading}
 use Rattle.procedure.specs.Entry.{held}
 use Rattle.procedure.specs.Parts.{OrderedBelow}
 use Rattle.procedure.proofs.Nodes.{nodes-counted, nodes-listed, nodes-kept}
@@ -33,7 +34,7 @@ use Rattle.record.specs.Put.{puts}
 use Rattle.write.specs.Lay.{reach, Firsts, LaysAt, Onward, Ready, Room}
 use Rattle.record.specs.Walk.{Nulls}
 use Rattle.record.proofs.Answers.{all-ordered}
-use Rattle.meaning.proofs.Twos.{twos-length}
+use Rattle.meaning.proofs.general.Twos.{twos-length}
 use Rattle.write.proofs.Laid.{Short, laid-whole, not-laid}
 use Rattle.record.proofs.Puts.{puts-all}
 use Rattle.write.proofs.Reaches.{reach-over}

@@ -11,7 +11,7 @@ use Rattle.meaning.specs.Node.{InOrder, Node, Stands}
 use Rattle.meaning.specs.Reading.{Item, Reading, codes}
 use Rattle.meaning.specs.Record.{itemNumber}
 use Rattle.meaning.specs.Sets.{First, After}
-use Rattle.meaning.proofs.Unique.{Free}
+use Rattle.meaning.specs.theory.Conflicts.{Free}
 use Rattle.write.specs.declared.lay.Laid.{Laid}
 use Rattle.write.specs.declared.lay.Laid.the-variants.{To, Stuck}
 use Rattle.record.specs.Put.{puts}

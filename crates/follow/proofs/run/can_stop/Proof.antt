@@ -1,8 +1,8 @@
 -- `follow::run::can_stop` meets its contract. Assumes nothing.
 use native.Mathlib.Omega.{arith}
 use borrow.Author.Needs.{needs}
-use Rattle.meaning.proofs.Files.{root-size}
-use Rattle.meaning.proofs.Spots.{CanStop}
+use Rattle.meaning.specs.theory.Spots.{CanStop}
+use Rattle.meaning.proofs.expressions.Parts.{root-size}
 use Rattle.follow.proofs.Running.{decides-eqb, stop-start, stop-place}
 use Rattle.follow.proofs.run.can_stop.Statement.{statement}
 use Rattle.follow.proofs.run.can_stop.Tie as tie

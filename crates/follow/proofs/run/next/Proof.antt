@@ -7,7 +7,7 @@ use native.Mathlib.Omega.{arith}
 use borrow.Author.Needs.{needs}
 use lib.ListN.{getD}
 use Rattle.meaning.specs.Expr.{Expr}
-use Rattle.meaning.proofs.Spots.{Spot}
+use Rattle.meaning.specs.theory.Spots.{Spot}
 use Rattle.plan.specs.Plan.{Plans}
 use Rattle.states.specs.Valid.{AtSpot}
 use Rattle.follow.proofs.Running.{Passed, passed-none, passed-more, nexted-goes, nexted-stays, wanted-kind}

@@ -6,7 +6,7 @@ use native.Mathlib.Omega.{arith}
 use borrow.Author.Needs.{needs}
 use lib.ListN.{length}
 use Rattle.meaning.specs.Expr.{Expr}
-use Rattle.meaning.proofs.Spots.{Spot}
+use Rattle.meaning.specs.theory.Spots.{Spot}
 use Rattle.plan.specs.Plan.{Plans}
 use Rattle.states.specs.Valid.{AtSpot}
 use Rattle.follow.proofs.Running.{Along, along-none, along-more, ran-stuck, ran-all}

@@ -1,6 +1,6 @@
 -- `follow::run::verdict` meets its contract. Assumes nothing.
 use borrow.Author.Needs.{needs}
-use Rattle.meaning.proofs.Follows.{broken-at}
+use Rattle.meaning.specs.theory.Runs.{broken-at}
 use Rattle.follow.proofs.Running.{stands-complete, stands-unfinished}
 use Rattle.follow.proofs.run.verdict.Statement.{statement}
 use Rattle.follow.proofs.run.verdict.Tie as tie

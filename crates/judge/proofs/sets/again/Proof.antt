@@ -1,5 +1,5 @@
 -- `judge::sets::again` meets its contract. Assumes nothing.
-use Rattle.judge.proofs.Bounds.{second-block}
+use Rattle.meaning.proofs.file.WrittenBounds.{second-block}
 use Rattle.judge.proofs.sets.again.Statement.{statement}
 use Rattle.judge.proofs.sets.again.Tie as tie
 

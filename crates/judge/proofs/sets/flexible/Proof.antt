@@ -1,6 +1,6 @@
 -- `judge::sets::flexible` meets its contract. Assumes nothing.
 use borrow.Author.Needs.{needs}
-use Rattle.judge.proofs.Bounds.{stop-or-go}
+use Rattle.meaning.proofs.file.WrittenBounds.{stop-or-go}
 use Rattle.judge.proofs.sets.flexible.Statement.{statement}
 use Rattle.judge.proofs.sets.flexible.Tie as tie
 

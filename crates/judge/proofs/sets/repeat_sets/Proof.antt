@@ -1,7 +1,7 @@
 -- `judge::sets::repeat_sets` meets its contract. Assumes nothing.
 use native.Mathlib.Omega.{arith}
 use borrow.Author.Needs.{needs}
-use Rattle.judge.proofs.Bounds.{normal-at-most}
+use Rattle.meaning.proofs.file.WrittenBounds.{normal-at-most}
 use Rattle.judge.proofs.Joins.{bounds-read, repeats}
 use Rattle.judge.proofs.sets.repeat_sets.Statement.{statement}
 use Rattle.judge.proofs.sets.repeat_sets.Tie as tie

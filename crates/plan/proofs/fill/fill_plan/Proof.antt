@@ -1,7 +1,7 @@
 -- `plan::fill::fill_plan` meets its contract. Assumes nothing.
 use native.Mathlib.Omega.{arith}
 use borrow.Author.Needs.{needs}
-use Rattle.meaning.proofs.Files.{root-size}
+use Rattle.meaning.proofs.expressions.Parts.{root-size}
 use Rattle.procedure.specs.Entry.{held}
 use Rattle.plan.proofs.Upward.{upon}
 use Rattle.plan.proofs.Whole.{plans-as}

@@ -6,7 +6,7 @@ use borrow.Author.Needs.{needs}
 use Rattle.meaning.specs.Node.{isRepeat, repeatsBelow}
 use Rattle.procedure.specs.Entry.{held}
 use Rattle.plan.specs.Filling.{UpTo}
-use Rattle.plan.proofs.Ranks.{below-rises}
+use Rattle.meaning.proofs.file.Ranks.{below-rises}
 use Rattle.plan.proofs.Links.{up-none}
 use Rattle.plan.proofs.Upward.{up-more}
 use Rattle.plan.proofs.fill.fill_up.Statement.{statement}

@@ -3,7 +3,7 @@
 use mathlib.Core.Path.{sym, _∙_}
 use native.Mathlib.Omega.{arith}
 use borrow.Author.Needs.{needs}
-use Rattle.procedure.proofs.Trailer.{letters-number, number-letters}
+use Rattle.meaning.proofs.file.Trailer.{letters-number, number-letters}
 use Rattle.procedure.proofs.frame.lettered.Statement.{statement}
 use Rattle.procedure.proofs.frame.lettered.Tie as tie
 

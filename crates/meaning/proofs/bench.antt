@@ -1,0 +1,3 @@
+-- The bench cases, and four errors that look right.
+pub mod Bench
+pub mod Errors
