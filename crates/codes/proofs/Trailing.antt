@@ -10,8 +10,8 @@ use Rattle.meaning.proofs.general.Digits.{digit-lowest, digit-up}
 use Rattle.codes.proofs.Members.{has-below}
 
 -- t is the lowest code in s, and is below k; or none of the codes below k is in s, and t is k
-abbrev Found : ℕ → ℕ → ℕ → Type 0
-Found k s t = (Least (Has s) t × (t < k)) ⊎ (((c : ℕ) → c < k → ¬ Has s c) × (t ≡ k))
+abbrev LeastBelow : ℕ → ℕ → ℕ → Type 0
+LeastBelow k s t = (Least (Has s) t × (t < k)) ⊎ (((c : ℕ) → c < k → ¬ Has s c) × (t ≡ k))
 
 has-zero : (s : ℕ) → Has s zero → s % 2 ≡ 1
 unfolding Has
@@ -27,7 +27,7 @@ unfolding Has
 has-twice s c h = rw digit-up h
 
 -- the lowest digit is 0: what is found is found in the half, one higher
-past-even : (k s t : ℕ) → s % 2 ≡ 0 → Found k (s / 2) t → Found (suc k) s (suc t)
+past-even : (k s t : ℕ) → s % 2 ≡ 0 → LeastBelow k (s / 2) t → LeastBelow (suc k) s (suc t)
 past-even k s t e (inl p) = inl (record { holds = has-twice s t (p .0 .holds); lowest = least }, suc-le-suc (p .1))
   where
     least : (d : ℕ) → Has s d → suc t ≤ d
@@ -40,13 +40,13 @@ past-even k s t e (inr p) = inr (empty, ap suc (p .1))
     empty (suc c) l h = p .0 c (le-of-suc-le-suc l) (has-half s c h)
 
 -- by the lowest digit, given what is found in the half
-from-half : (k s t r : ℕ) → s % 2 ≡ r → Found k (s / 2) t → Found (suc k) s (under r t)
+from-half : (k s t r : ℕ) → s % 2 ≡ r → LeastBelow k (s / 2) t → LeastBelow (suc k) s (under r t)
 unfolding Has
 from-half k s t zero e p = past-even k s t e p
 from-half k s t (suc r) e p =
     inl (record { holds = rw digit-lowest (omega arith); lowest = λ d h. zero-le }, zero-lt-suc k)
 
-found : (k s : ℕ) → Found k s (trailingZeros k s)
+found : (k s : ℕ) → LeastBelow k s (trailingZeros k s)
 unfolding trailingZeros
 found zero s = inr (λ c l. absurd (not-suc-le-zero l), refl)
 found (suc k) s = from-half k s (trailingZeros k (s / 2)) (s % 2) refl (found k (s / 2))

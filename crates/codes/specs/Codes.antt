@@ -1,5 +1,6 @@
 -- Sets of codes: what it is to be in one, and the sets that the functions make. A caller goes by the laws of membership
--- (`proofs/Members.antt`) and opens nothing here, so that how a set is held, as the bits of a number, is known to this crate alone.
+-- (`proofs/Members.antt`) and opens nothing here, so that how a set is held, as the bits of a number, is known to this crate alone. A
+-- model of our code, and no promise.
 use Prim.Native.Nat.{ℕ, _^_, _≤_, _<_}
 use lib.Bits.{bitAnd, bitOr}
 unfoldable pub use Rattle.meaning.specs.Codes.{Has}

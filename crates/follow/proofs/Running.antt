@@ -3,10 +3,9 @@
 use mathlib.Core.Path.{_≡_, refl, sym, ap, subst, _∙_}
 use mathlib.Core.Bool.{Bool, true, false, So, true≢false}
 use mathlib.Core.List.{List}
-use Prim.Native.Nat.{ℕ, _+_, _-_, _*_, _/_, _%_, _≤_, _<_}
+use Prim.Native.Nat.{ℕ, _+_, _-_, _/_, _%_, _≤_, _<_}
 use native.Mathlib.Omega.{arith}
 use native.Mathlib.Decide.{decLt}
-use lib.Dec.{eqb}
 use lib.ListN.{length, getD}
 use Rattle.meaning.specs.declared.Verdict.the-variants.{Complete, Unfinished}
 use Rattle.meaning.specs.Expr.{Expr, event, size, root, Part}
@@ -15,65 +14,50 @@ use Rattle.meaning.specs.Node.{node}
 use Rattle.meaning.specs.theory.Places.{Place, nodeOf, CanEnd}
 use Rattle.meaning.specs.theory.Spots.{Spot, start, behind, CanStop}
 use Rattle.meaning.specs.theory.Runs.{LeadsTo, VerdictAt, complete-at, unfinished-at}
-use Rattle.meaning.proofs.general.Facts.{so-eqb}
 use Rattle.meaning.proofs.expressions.Parts.{root-size}
 use Rattle.meaning.proofs.places.Ways.{way-ends}
 use Rattle.meaning.proofs.file.EventNodes.{stands-part, no-way-stands}
 use Rattle.meaning.proofs.promises.Follows.{Gone, gone-none, gone-more, gone-done, gone-stuck}
-use Rattle.procedure.specs.Entry.{unpacked, held, kindOf, codeOf, leftOf, lowerOf, upperOf}
+use Rattle.procedure.proofs.Entries.{repacked}
+use Rattle.procedure.specs.Entry.{packed, unpacked, held, kindOf}
 use Rattle.procedure.specs.Tests.{Decides}
-use Rattle.plan.specs.Plan.{Plans, emptyAt, bit}
-use Rattle.steps.specs.Counts.{Marked, Unmarked}
+use Rattle.procedure.specs.Listing.{Listing, TellsNulls}
+use Rattle.procedure.proofs.Empties.{null-of-part}
+use Rattle.meaning.specs.theory.Counts.{Marked, Unmarked}
 use Rattle.steps.specs.Step.{Stepped, steps, Started, starts, Ended, ended, open-yet}
 use Rattle.steps.specs.Step as step
-use Rattle.states.specs.Valid.{AtSpot}
-use Rattle.follow.specs.Run.{Found, Tried, leads, Nexted, goes, RanTo}
+use Rattle.states.specs.Standing.{AtSpot}
+use Rattle.follow.specs.Run.{LowestFrom, Tried, leads, Nexted, goes, RanTo}
 use Rattle.follow.specs.Run as run
 
 -- ---- the entry of an event node
 
-rest-of : (y c : ℕ) → c < 256 → y ≡ c → y % 256 ≡ c
-rest-of y c small same = omega arith
-
-of-rest : (y c : ℕ) → y < 256 → y % 256 ≡ c → y ≡ c
-of-rest y c small same = omega arith
-
-no-rest : (y : ℕ) → y < 65536 → y % 65536 ≡ 0 → y ≡ 0
-no-rest y small same = omega arith
-
-pub entry-event : (x c : ℕ) → c < 256 → x ≡ 1 + 256 * c → unpacked x ≡ node 1 c 0 0 0
+pub entry-event : (x c : ℕ) → c < 256 → x ≡ packed (node 1 c 0 0 0) → unpacked x ≡ node 1 c 0 0 0
 unfolding unpacked
 entry-event x c small same =
     let k : x % 256 ≡ 1 = omega arith in
-    let whole : x / 256 ≡ c = omega arith in
-    let d = rest-of (x / 256) c small whole in
+    let low : x / 256 ≡ c = omega arith in
+    let d : x / 256 % 256 ≡ c = rest (x / 256) low in
     let l : x / 65536 % 65536 ≡ 0 = omega arith in
     let m : x / 4294967296 % 65536 ≡ 0 = omega arith in
     let u : x / 281474976710656 ≡ 0 = omega arith in
     λ i. node (k i) (d i) (l i) (m i) (u i)
+  where
+    rest : (y : ℕ) → y ≡ c → y % 256 ≡ c
+    rest y same = omega arith
 
-pub event-entry : (x c : ℕ) → unpacked x ≡ node 1 c 0 0 0 → x ≡ 1 + 256 * c
-unfolding unpacked
-event-entry x c same =
-    let k : x % 256 ≡ 1 = ap kindOf same in
-    let d : x / 256 % 256 ≡ c = ap codeOf same in
-    let l : x / 65536 % 65536 ≡ 0 = ap leftOf same in
-    let m : x / 4294967296 % 65536 ≡ 0 = ap lowerOf same in
-    let u : x / 281474976710656 ≡ 0 = ap upperOf same in
-    let high = no-rest (x / 4294967296) (omega arith) m in
-    let middle = no-rest (x / 65536) (omega arith) l in
-    let low : x / 256 ≡ c = of-rest (x / 256) c (omega arith) d in
-    omega arith
+pub event-entry : (x c : ℕ) → unpacked x ≡ node 1 c 0 0 0 → x ≡ packed (node 1 c 0 0 0)
+event-entry x c same = sym (repacked x) ∙ ap packed same
 
 -- ---- the search for it
 
 pub found-here : (nodes : List ℕ) (n from wanted i : ℕ) → from ≤ i → i < n → ((j : ℕ) → j < i → from ≤ j → ¬ (getD nodes j 0 ≡ wanted))
     → getD nodes i 0 ≡ wanted
-    → Found nodes n from wanted i
+    → LowestFrom nodes n from wanted i
 found-here nodes n from wanted i a l none h = record { above = a; within = omega arith; below = λ j f b. none j b f; here = λ m. h }
 
 pub found-none : (nodes : List ℕ) (n from wanted i : ℕ) → from ≤ i → i ≤ n → n ≤ i → ((j : ℕ) → j < i → from ≤ j → ¬ (getD nodes j 0 ≡ wanted))
-    → Found nodes n from wanted i
+    → LowestFrom nodes n from wanted i
 found-none nodes n from wanted i a l m none = record { above = a; within = l; below = λ j f b. none j b f; here = λ h. absurd (omega arith) }
 
 -- ---- from a spot to one event node
@@ -103,12 +87,12 @@ pub record Passed (nodes : List ℕ) (e : Expr) (k : Spot e) (wanted q : ℕ) (c
   pub same : c ≡ d
   pub none : (j : ℕ) → j < q → getD nodes j 0 ≡ wanted → (t : Place e) → ¬ LeadsTo e k j t
 
-pub passed-none : (nodes : List ℕ) (e : Expr) (k : Spot e) (n wanted q : ℕ) (c : List ℕ) → Found nodes n 0 wanted q → Passed nodes e k wanted q c c
+pub passed-none : (nodes : List ℕ) (e : Expr) (k : Spot e) (n wanted q : ℕ) (c : List ℕ) → LowestFrom nodes n 0 wanted q → Passed nodes e k wanted q c c
 passed-none nodes e k n wanted q c f = record { same = refl; none = λ j l w. absurd (f .below j (omega arith) l w) }
 
 -- with the answer no at q, up to the next that is wanted
 pub passed-more : (nodes : List ℕ) (e : Expr) (k : Spot e) (n wanted q r : ℕ) (b : Bool) (c d f : List ℕ) → Passed nodes e k wanted q c d → b ≡ false
-    → Tried e k q b d f → Found nodes n (q + 1) wanted r
+    → Tried e k q b d f → LowestFrom nodes n (q + 1) wanted r
     → Passed nodes e k wanted r c f
 passed-more nodes e k n wanted q r b c d f p refused t next = go b d f t refused (p .same)
   where
@@ -125,10 +109,10 @@ passed-more nodes e k n wanted q r b c d f p refused t next = go b d f t refused
     go b x y (run.Tried.stays never) h same = record { same = same; none = λ j l w. split never j l w (decLt j q) }
 
 -- with the answer yes
-pub nexted-goes : (nodes plan : List ℕ) (n : ℕ) (e : Expr) (k : Spot e) (code wanted q : ℕ) (b : Bool) (c d f : List ℕ) → Plans nodes plan n e
-    → code < 256 → wanted ≡ 1 + 256 * code → q < n → getD nodes q 0 ≡ wanted → b ≡ true → Tried e k q b d f
+pub nexted-goes : (nodes : List ℕ) (n : ℕ) (e : Expr) (k : Spot e) (code wanted q : ℕ) (b : Bool) (c d f : List ℕ) → Listing nodes n e
+    → code < 256 → wanted ≡ packed (node 1 code 0 0 0) → q < n → getD nodes q 0 ≡ wanted → b ≡ true → Tried e k q b d f
     → Nexted e k code (q + 1) c f
-nexted-goes nodes plan n e k code wanted q b c d f pl small same below here said t = go b d f t said
+nexted-goes nodes n e k code wanted q b c d f pl small same below here said t = go b d f t said
   where
     part : Part 0 e q (event code)
     part = stands-part (held nodes) 0 e q code (pl .stands) (omega arith) (omega (arith, pl .sized)) (entry-event (getD nodes q 0) code small (here ∙ same))
@@ -138,16 +122,16 @@ nexted-goes nodes plan n e k code wanted q b c d f pl small same below here said
     go b x y (run.Tried.stays never) h = absurd (let z : _≡_ {A = ℕ} 0 1 = cc in omega arith)
 
 -- with no more that is wanted
-pub nexted-stays : (nodes plan : List ℕ) (n : ℕ) (e : Expr) (k : Spot e) (code wanted q : ℕ) (c d : List ℕ) → Plans nodes plan n e
-    → wanted ≡ 1 + 256 * code → n ≤ q → Passed nodes e k wanted q c d
+pub nexted-stays : (nodes : List ℕ) (n : ℕ) (e : Expr) (k : Spot e) (code wanted q : ℕ) (c d : List ℕ) → Listing nodes n e
+    → wanted ≡ packed (node 1 code 0 0 0) → n ≤ q → Passed nodes e k wanted q c d
     → Nexted e k code 0 c d
-nexted-stays nodes plan n e k code wanted q c d pl same over p =
+nexted-stays nodes n e k code wanted q c d pl same over p =
     subst (λ (x : List ℕ). Nexted e k code 0 c x) (p .same)
     (run.Nexted.stays
     (no-way-stands (held nodes) e k code (pl .stands)
     (λ j l w. p .none j (omega (arith, pl .sized)) (event-entry (getD nodes j 0) code w ∙ sym same))))
 
-pub wanted-kind : (nodes : List ℕ) (code wanted q : ℕ) → code < 256 → wanted ≡ 1 + 256 * code → getD nodes q 0 ≡ wanted → kindOf (held nodes q) ≡ 1
+pub wanted-kind : (nodes : List ℕ) (code wanted q : ℕ) → code < 256 → wanted ≡ packed (node 1 code 0 0 0) → getD nodes q 0 ≡ wanted → kindOf (held nodes q) ≡ 1
 wanted-kind nodes code wanted q small same here = ap kindOf (entry-event (getD nodes q 0) code small (here ∙ same))
 
 -- ---- the events
@@ -181,37 +165,27 @@ ran-all e k events taken at c a l = record { spot = a .spot; going = gone-done e
 
 -- ---- how the run stands
 
-pub decides-eqb : (P : Type 0) (x y : ℕ) → (x ≡ y → P) × (P → x ≡ y) → Decides P (eqb x y)
-decides-eqb P x y f = go (eqb x y) refl
+pub stop-start : (nodes : List ℕ) (nulls : List Bool) (n : ℕ) (e : Expr) (k : Spot e) (at : ℕ) (c : List ℕ) → Listing nodes n e
+    → TellsNulls (held nodes) nulls n → at ≡ 0 → AtSpot e k at c → Decides (CanStop e k) (getD nulls (n - 1) false)
+stop-start nodes nulls n e start at c l told z s =
+    let last : root 0 e ≡ n - 1 = omega (arith, root-size 0 e, l .sized) in
+    let here = null-of-part (held nodes) nulls n 0 e told (l .stands) (omega (arith, root-size 0 e, l .sized)) in
+    go (getD nulls (n - 1) false) (nullable e) (ap (λ (i : ℕ). getD nulls i false) (sym last) ∙ here)
   where
-    go : (b : Bool) → eqb x y ≡ b → Decides P b
-    go true h = f .0 (so-eqb x y .0 h)
-    go false h = λ p. true≢false (sym (so-eqb x y .1 (f .1 p)) ∙ h)
-
-pub stop-start : (nodes plan : List ℕ) (n : ℕ) (e : Expr) (k : Spot e) (at m : ℕ) (c : List ℕ) → Plans nodes plan n e → at ≡ 0 → AtSpot e k at c
-    → m ≡ emptyAt plan (n - 1)
-    → (m ≡ 1 → CanStop e k) × (CanStop e k → m ≡ 1)
-stop-start nodes plan n e start at m c pl z s h =
-    let big = root-size 0 e in
-    let last : n - 1 ≡ root 0 e = omega (arith, pl .sized) in
-    let own = pl .own 0 e (pl .stands) (omega (arith, pl .sized)) in
-    let said : m ≡ bit (nullable e) = h ∙ ap (emptyAt plan) last ∙ own .empties in
-    go (nullable e) said
-  where
-    go : (b : Bool) → m ≡ bit b → (m ≡ 1 → So b) × (So b → m ≡ 1)
-    go true f = (λ g. refl, λ g. f)
-    go false f = (λ g. absurd (omega arith), λ g. absurd (let w : _≡_ {A = ℕ} 0 1 = cc in omega arith))
-stop-start nodes plan n e (behind p) at m c pl z s h = absurd (omega (arith, s .0))
+    go : (b d : Bool) → b ≡ d → Decides (So d) b
+    go true d f = sym f
+    go false d f = λ g. true≢false (sym g ∙ sym f)
+stop-start nodes nulls n e (behind p) at c l told z s = absurd (omega (arith, s .0))
 
 decides-ended : (n : ℕ) (e : Expr) (p : Place e) (b : Bool) → size e ≡ n → Ended n e p b → Decides (CanEnd e p) b
 decides-ended n e p b l (ended h) = way-ends 0 e p n (omega arith) .0 h
 decides-ended n e p b l (open-yet h) = λ g. h (way-ends 0 e p n (omega arith) .1 g)
 
-pub stop-place : (nodes plan : List ℕ) (n : ℕ) (e : Expr) (k : Spot e) (at : ℕ) (b : Bool) (c : List ℕ) → Plans nodes plan n e → ¬ (at ≡ 0) → AtSpot e k at c
+pub stop-place : (n : ℕ) (e : Expr) (k : Spot e) (at : ℕ) (b : Bool) (c : List ℕ) → size e ≡ n → ¬ (at ≡ 0) → AtSpot e k at c
     → ((p : Place e) → nodeOf 0 e p ≡ at - 1 → Marked c e p → Ended n e p b)
     → Decides (CanStop e k) b
-stop-place nodes plan n e start at b c pl z s f = absurd (z (s .0))
-stop-place nodes plan n e (behind p) at b c pl z s f = decides-ended n e p b (pl .sized) (f p (omega (arith, s .0)) (s .1))
+stop-place n e start at b c pl z s f = absurd (z (s .0))
+stop-place n e (behind p) at b c pl z s f = decides-ended n e p b pl (f p (omega (arith, s .0)) (s .1))
 
 pub stands-complete : (e : Expr) (k : Spot e) (t n : ℕ) (b : Bool) → t ≤ n → n ≤ t → b ≡ true → Decides (CanStop e k) b → VerdictAt e k t n Complete
 stands-complete e k t n b l m said d = complete-at (omega arith) (subst (Decides (CanStop e k)) said d)

@@ -1,4 +1,4 @@
--- What a batch of events promises, from the expression of an admitted file. A model of our code: the promise is the meaning's.
+-- What a batch of events comes to, from the expression of an admitted file. A model of our code, and no promise.
 use mathlib.Core.Path.{_≡_}
 use mathlib.Core.List.{List}
 use Prim.Native.Nat.{ℕ}

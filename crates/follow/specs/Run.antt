@@ -1,4 +1,5 @@
--- What following events promises, from the tree: where a run stands, the event that comes next, and the run over all events.
+-- Following events, from the tree: where a run stands, the event that comes next, and the run over all events. A model of our code, and
+-- no promise.
 use mathlib.Core.Path.{_≡_}
 use mathlib.Core.Bool.{Bool, true, false}
 use mathlib.Core.List.{List}
@@ -8,10 +9,10 @@ use Rattle.meaning.specs.Expr.{Expr, event, Part}
 use Rattle.meaning.specs.theory.Places.{Place}
 use Rattle.meaning.specs.theory.Spots.{Spot, behind}
 use Rattle.meaning.specs.theory.Runs.{LeadsTo, NoWay, Going}
-use Rattle.states.specs.Valid.{AtSpot}
+use Rattle.states.specs.Standing.{AtSpot}
 
 -- r is the lowest number from `from` on whose entry is the one wanted, or n where there is none below n
-pub record Found (nodes : List ℕ) (n from wanted r : ℕ) : Type 0 where
+pub record LowestFrom (nodes : List ℕ) (n from wanted r : ℕ) : Type 0 where
   pub above : from ≤ r
   pub within : r ≤ n
   pub below : (j : ℕ) → from ≤ j → j < r → ¬ (getD nodes j 0 ≡ wanted)

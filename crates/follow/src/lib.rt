@@ -11,8 +11,13 @@ pub fn follow(file: &[u8], state: &mut [u8], events: &[u8]) -> FollowAnswer
     ensures { λ r. ⌜ Follows (now (file .entry)) (now (state .entry)) (now (events .entry)) r (now (state .exit)) ⌝ }
 {
     let mut nodes = [0u64; 512];
-    match judge::admit(file, &mut nodes) {
+    let mut starts = [0u16; 512];
+    let mut nulls = [false; 512];
+    let mut repeats = [0u16; 32];
+    match judge::admit(file, &mut nodes, &mut starts, &mut nulls, &mut repeats) {
         Admission::Refused(r) => FollowAnswer::Refused(r),
-        Admission::Nodes(n) => batch::go_on(&nodes, n, state, events),
+        Admission::Nodes(n, r) => {
+            batch::go_on(&nodes, &starts, &nulls, &repeats, n, r, state, events)
+        }
     }
 }

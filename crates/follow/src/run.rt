@@ -1,6 +1,6 @@
 // A run of events from where a run stands: a node, which is 0 at the start or else 1 + the event node reached, and the counters.
 ghost use mathlib.Core.Path.{_≡_};
-ghost use Prim.Native.Nat.{_+_, _*_, _≤_, _<_};
+ghost use Prim.Native.Nat.{_≤_, _<_};
 ghost use lib.ListN.{length};
 ghost use Rattle.meaning.specs.Expr.{Expr};
 ghost use Rattle.meaning.specs.theory.Spots.{Spot, CanStop};
@@ -8,10 +8,10 @@ ghost use Rattle.meaning.specs.theory.Runs.{VerdictAt};
 ghost use Rattle.procedure.specs.Entry.{held, kindOf};
 ghost use Rattle.procedure.specs.Tests.{Decides};
 ghost use Rattle.plan.specs.Plan.{Plans};
-ghost use Rattle.states.specs.Valid.{AtSpot};
-ghost use Rattle.follow.specs.Run.{Found, Tried, Nexted, RanTo};
+ghost use Rattle.states.specs.Standing.{AtSpot};
+ghost use Rattle.follow.specs.Run.{LowestFrom, Tried, Nexted, RanTo};
 use meaning::Verdict;
-use plan::table;
+use procedure::entry;
 
 // Where a run stands after some events, and how many of them it took.
 pub struct Ran {
@@ -20,19 +20,11 @@ pub struct Ran {
     pub taken: usize,
 }
 
-// An event node with the code, as an entry.
-fn event_of(code: u8) -> u64
-    ensures { λ r. ⌜ r ≡ 1 + 256 * code ⌝ }
-    ensures { λ r. ⌜ code < 256 ⌝ }
-{
-    1 + 256 * (code as u64)
-}
-
 // The lowest node of the n, not below `from`, that is the entry wanted; n where there is none.
 fn find(nodes: &[u64; 512], n: usize, from: usize, wanted: u64) -> usize
     requires { ⌜ n ≤ 512 ⌝ }
     requires { ⌜ from ≤ n ⌝ }
-    ensures { λ r. ⌜ Found (now (nodes .entry)) n from wanted r ⌝ }
+    ensures { λ r. ⌜ LowestFrom (now (nodes .entry)) n from wanted r ⌝ }
 {
     let mut q = from;
     while q < n {
@@ -47,6 +39,8 @@ fn find(nodes: &[u64; 512], n: usize, from: usize, wanted: u64) -> usize
 // From where the run stands to event node q. The counters change only where the answer is yes.
 fn go_to(
     nodes: &[u64; 512],
+    starts: &[u16; 512],
+    nulls: &[bool; 512],
     plan: &[u64; 512],
     n: usize,
     node: usize,
@@ -55,18 +49,20 @@ fn go_to(
 ) -> bool
     requires { ⌜ node ≤ n ⌝ }
     requires { ⌜ q < n ⌝ }
-    requires { ⌜ ((e : Expr) × Plans (now nodes) (now plan) n e) ⌝ }
-    ensures { λ r. ⌜ ((e : Expr) (k : Spot e) → Plans (now (nodes .entry)) (now (plan .entry)) n e → kindOf (held (now (nodes .entry)) q) ≡ 1 → AtSpot e k node (now (counts .entry)) → Tried e k q r (now (counts .entry)) (now (counts .exit))) ⌝ }
+    requires { ⌜ ((e : Expr) × Plans (now nodes) (now starts) (now nulls) (now plan) n e) ⌝ }
+    ensures { λ r. ⌜ ((e : Expr) (k : Spot e) → Plans (now (nodes .entry)) (now (starts .entry)) (now (nulls .entry)) (now (plan .entry)) n e → kindOf (held (now (nodes .entry)) q) ≡ 1 → AtSpot e k node (now (counts .entry)) → Tried e k q r (now (counts .entry)) (now (counts .exit))) ⌝ }
 {
     if node == 0 {
-        return steps::start(nodes, plan, n, counts, q);
+        return steps::start(nodes, starts, plan, n, counts, q);
     }
-    steps::step(nodes, plan, n, counts, node - 1, q)
+    steps::step(nodes, starts, nulls, plan, n, counts, node - 1, q)
 }
 
 // By an event with the code to the node after it; 0 where the code does not continue, and the counters are then as they were.
 pub fn next(
     nodes: &[u64; 512],
+    starts: &[u16; 512],
+    nulls: &[bool; 512],
     plan: &[u64; 512],
     n: usize,
     node: usize,
@@ -74,14 +70,14 @@ pub fn next(
     code: u8,
 ) -> usize
     requires { ⌜ node ≤ n ⌝ }
-    requires { ⌜ ((e : Expr) × Plans (now nodes) (now plan) n e) ⌝ }
+    requires { ⌜ ((e : Expr) × Plans (now nodes) (now starts) (now nulls) (now plan) n e) ⌝ }
     ensures { λ r. ⌜ r ≤ n ⌝ }
-    ensures { λ r. ⌜ ((e : Expr) (k : Spot e) → Plans (now (nodes .entry)) (now (plan .entry)) n e → AtSpot e k node (now (counts .entry)) → Nexted e k code r (now (counts .entry)) (now (counts .exit))) ⌝ }
+    ensures { λ r. ⌜ ((e : Expr) (k : Spot e) → Plans (now (nodes .entry)) (now (starts .entry)) (now (nulls .entry)) (now (plan .entry)) n e → AtSpot e k node (now (counts .entry)) → Nexted e k code r (now (counts .entry)) (now (counts .exit))) ⌝ }
 {
-    let wanted = event_of(code);
+    let wanted = entry::event_of(code);
     let mut q = find(nodes, n, 0, wanted);
     while q < n {
-        if go_to(nodes, plan, n, node, counts, q) {
+        if go_to(nodes, starts, nulls, plan, n, node, counts, q) {
             return q + 1;
         }
         q = find(nodes, n, q + 1, wanted);
@@ -92,6 +88,8 @@ pub fn next(
 // With the events, up to the first that does not continue.
 pub fn run(
     nodes: &[u64; 512],
+    starts: &[u16; 512],
+    nulls: &[bool; 512],
     plan: &[u64; 512],
     n: usize,
     node: usize,
@@ -99,15 +97,15 @@ pub fn run(
     events: &[u8],
 ) -> Ran
     requires { ⌜ node ≤ n ⌝ }
-    requires { ⌜ ((e : Expr) × Plans (now nodes) (now plan) n e) ⌝ }
+    requires { ⌜ ((e : Expr) × Plans (now nodes) (now starts) (now nulls) (now plan) n e) ⌝ }
     ensures { λ r. ⌜ r .node ≤ n ⌝ }
     ensures { λ r. ⌜ r .taken ≤ length (now (events .entry)) ⌝ }
-    ensures { λ r. ⌜ ((e : Expr) (k : Spot e) → Plans (now (nodes .entry)) (now (plan .entry)) n e → AtSpot e k node (now (counts .entry)) → RanTo e k (now (events .entry)) (r .taken) (r .node) (now (counts .exit))) ⌝ }
+    ensures { λ r. ⌜ ((e : Expr) (k : Spot e) → Plans (now (nodes .entry)) (now (starts .entry)) (now (nulls .entry)) (now (plan .entry)) n e → AtSpot e k node (now (counts .entry)) → RanTo e k (now (events .entry)) (r .taken) (r .node) (now (counts .exit))) ⌝ }
 {
     let mut at = node;
     let mut taken = 0;
     while taken < events.len() {
-        let reached = next(nodes, plan, n, at, counts, events[taken]);
+        let reached = next(nodes, starts, nulls, plan, n, at, counts, events[taken]);
         if reached == 0 {
             return Ran { node: at, taken };
         }
@@ -120,24 +118,28 @@ pub fn run(
 // Whether the run that stands there is complete.
 pub fn can_stop(
     nodes: &[u64; 512],
+    starts: &[u16; 512],
+    nulls: &[bool; 512],
     plan: &[u64; 512],
     n: usize,
     node: usize,
     counts: &[u16; 32],
 ) -> bool
     requires { ⌜ node ≤ n ⌝ }
-    requires { ⌜ ((e : Expr) × Plans (now nodes) (now plan) n e) ⌝ }
-    ensures { λ r. ⌜ ((e : Expr) (k : Spot e) → Plans (now (nodes .entry)) (now (plan .entry)) n e → AtSpot e k node (now (counts .entry)) → Decides (CanStop e k) r) ⌝ }
+    requires { ⌜ ((e : Expr) × Plans (now nodes) (now starts) (now nulls) (now plan) n e) ⌝ }
+    ensures { λ r. ⌜ ((e : Expr) (k : Spot e) → Plans (now (nodes .entry)) (now (starts .entry)) (now (nulls .entry)) (now (plan .entry)) n e → AtSpot e k node (now (counts .entry)) → Decides (CanStop e k) r) ⌝ }
 {
     if node == 0 {
-        return table::empty_of(plan[n - 1]) == 1;
+        return nulls[n - 1];
     }
-    steps::can_end(nodes, plan, n, counts, node - 1)
+    steps::can_end(nodes, starts, nulls, plan, n, counts, node - 1)
 }
 
 // How the run stands there that took some of so many events.
 pub fn verdict(
     nodes: &[u64; 512],
+    starts: &[u16; 512],
+    nulls: &[bool; 512],
     plan: &[u64; 512],
     n: usize,
     node: usize,
@@ -147,13 +149,13 @@ pub fn verdict(
 ) -> Verdict
     requires { ⌜ node ≤ n ⌝ }
     requires { ⌜ taken ≤ given ⌝ }
-    requires { ⌜ ((e : Expr) × Plans (now nodes) (now plan) n e) ⌝ }
-    ensures { λ r. ⌜ ((e : Expr) (k : Spot e) → Plans (now (nodes .entry)) (now (plan .entry)) n e → AtSpot e k node (now (counts .entry)) → VerdictAt e k taken given r) ⌝ }
+    requires { ⌜ ((e : Expr) × Plans (now nodes) (now starts) (now nulls) (now plan) n e) ⌝ }
+    ensures { λ r. ⌜ ((e : Expr) (k : Spot e) → Plans (now (nodes .entry)) (now (starts .entry)) (now (nulls .entry)) (now (plan .entry)) n e → AtSpot e k node (now (counts .entry)) → VerdictAt e k taken given r) ⌝ }
 {
     if taken < given {
         return Verdict::Broken;
     }
-    if can_stop(nodes, plan, n, node, counts) {
+    if can_stop(nodes, starts, nulls, plan, n, node, counts) {
         return Verdict::Complete;
     }
     Verdict::Unfinished

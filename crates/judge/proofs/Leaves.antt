@@ -11,7 +11,7 @@ use Rattle.meaning.specs.Node.{Node, Stands}
 use Rattle.procedure.specs.Entry.{kindOf, codeOf}
 use Rattle.judge.specs.Sets.{SetsOf, SetsAt, OfLeaf}
 use Rattle.judge.specs.declared.conflict.Found.the-variants.{Nothing}
-use Rattle.judge.specs.declared.sets.Sets.{Sets}
+use Rattle.judge.specs.declared.sets.PartSets.{PartSets}
 use Rattle.judge.proofs.Lowest.{names-nothing}
 use Rattle.procedure.proofs.Standing.{kindNumber, standing-kind}
 
@@ -20,10 +20,10 @@ NoCode set = (c : ℕ) → ¬ Has set c
 
 -- ---- the sets of empty and of an event
 
-abbrev bare : (first after : ℕ) → Sets
+abbrev bare : (first after : ℕ) → PartSets
 bare first after = record { nullable = true; first = first; after = after; conflict = Nothing }
 
-abbrev single : (first after : ℕ) → Sets
+abbrev single : (first after : ℕ) → PartSets
 single first after = record { nullable = false; first = first; after = after; conflict = Nothing }
 
 -- a leaf has no conflict
@@ -72,6 +72,6 @@ leaf-event n first after k f a = λ g i h s e p r. go g i h s e p r (sym (standi
     go g i h s (sequence l q) p r m = absurd (omega arith)
     go g i h s (repeat b lower upper) p r m = absurd (omega arith)
 
-pub leaf-at : (g : ℕ → Node) (i : ℕ) (x : Sets) → OfLeaf (g i) x → SetsAt g i x
+pub leaf-at : (g : ℕ → Node) (i : ℕ) (x : PartSets) → OfLeaf (g i) x → SetsAt g i x
 unfolding OfLeaf
 leaf-at g i x h = h g i refl

@@ -11,23 +11,30 @@ pub mod sets; // sets.rt: first, after and the lowest conflict of a part
 
 // What becomes of a file.
 pub enum Admission {
-    // It holds a strongly deterministic expression of so many nodes, which are the first entries.
-    Nodes(usize),
+    // It holds a strongly deterministic expression of so many nodes, of which so many are repeats.
+    Nodes(usize, usize),
     // The first of 1 to 7 that applies.
     Refused(Refusal),
 }
 
-// The file's nodes as entries, where it is admitted. What the other entries are is not said, nor what any is where it is refused.
-pub fn admit(file: &[u8], nodes: &mut [u64; 512]) -> Admission
-    ensures { λ r. ⌜ Admits (now (file .entry)) (now (nodes .exit)) r ⌝ }
+// The file's nodes as entries with their tables, as `procedure::read` hands them out, where it is admitted. What stands in the tables
+// past these is not said, nor what stands in them where the file is refused.
+pub fn admit(
+    file: &[u8],
+    nodes: &mut [u64; 512],
+    starts: &mut [u16; 512],
+    nulls: &mut [bool; 512],
+    repeats: &mut [u16; 32],
+) -> Admission
+    ensures { λ r. ⌜ Admits (now (file .entry)) (now (nodes .exit)) (now (starts .exit)) (now (nulls .exit)) (now (repeats .exit)) r ⌝ }
 {
-    match procedure::read(file, nodes) {
+    match procedure::read(file, nodes, starts, nulls, repeats) {
         Opened::Refused(r) => Admission::Refused(r),
-        Opened::Nodes(n) => {
+        Opened::Nodes(n, count) => {
             let root = sets::sets_of(nodes, n - 1);
             let found = root.conflict;
             match found {
-                Found::Nothing => Admission::Nodes(n),
+                Found::Nothing => Admission::Nodes(n, count),
                 Found::At(i, k, c) => Admission::Refused(Refusal::Conflict(i, k, c)),
             }
         }
@@ -39,8 +46,11 @@ pub fn judge(file: &[u8]) -> JudgeAnswer
     ensures { λ r. ⌜ Judges (now (file .entry)) r ⌝ }
 {
     let mut nodes = [0u64; 512];
-    match admit(file, &mut nodes) {
-        Admission::Nodes(_) => JudgeAnswer::Admitted,
+    let mut starts = [0u16; 512];
+    let mut nulls = [false; 512];
+    let mut repeats = [0u16; 32];
+    match admit(file, &mut nodes, &mut starts, &mut nulls, &mut repeats) {
+        Admission::Nodes(_, _) => JudgeAnswer::Admitted,
         Admission::Refused(r) => JudgeAnswer::Refused(r),
     }
 }

@@ -1,20 +1,20 @@
 // First and after of a part, and its lowest conflict, worked out from those of its children.
 ghost use mathlib.Core.Bool.{So};
 ghost use mathlib.Core.Logic.{_↔_};
-ghost use mathlib.Core.Path.{_≡_};
-ghost use Prim.Native.Nat.{ℕ, _<_, _≤_};
+ghost use Prim.Native.Nat.{ℕ, _<_};
 ghost use Rattle.meaning.specs.Codes.{Has};
-ghost use Rattle.meaning.specs.Expr.{Within, choice, sequence};
-ghost use Rattle.meaning.specs.Node.{InOrder, InTable, bound};
-ghost use Rattle.meaning.specs.Sets.{Flexible};
+ghost use Rattle.meaning.specs.Expr.{choice, sequence};
+ghost use Rattle.meaning.specs.Node.{InTable};
 ghost use Rattle.procedure.specs.Entry.{held, kindOf, lowerOf, unpacked, upperOf};
-ghost use Rattle.judge.specs.Sets.{Joins, OfLeaf, Repeats, SetsAt, TableUpTo};
+ghost use Rattle.procedure.specs.Listing.{OneOf};
+ghost use Rattle.judge.specs.Sets.{Joins, OfLeaf, OverBody, SetsAt};
 use crate::conflict;
 use crate::conflict::Found;
+use procedure::bounds;
 use procedure::entry;
 
 // What is worked out of a part.
-pub struct Sets {
+pub struct PartSets {
     // Whether it has the empty word.
     pub nullable: bool,
     // The codes that begin its words.
@@ -24,9 +24,6 @@ pub struct Sets {
     // The lowest conflict at its nodes.
     pub conflict: Found,
 }
-
-// The least upper bound with which a repeat may have a second block.
-const SECOND_BLOCK: u16 = 2;
 
 // The set where `when` is true, and else no code.
 fn only_if(when: bool, set: u64) -> u64
@@ -42,36 +39,21 @@ fn has_any(set: u64) -> bool
     codes::lowest(set) < codes::LIMIT
 }
 
-// Whether a repeat may have a second block.
-fn again(upper: u16) -> bool
-    ensures { λ r. ⌜ So r ↔ Within 2 (bound upper) ⌝ }
-{
-    SECOND_BLOCK <= upper
-}
-
-// Whether a repeat may stop or go on after a block. The table keeps every lower bound below entry::NO_BOUND.
-fn flexible(lower: u16, upper: u16) -> bool
-    requires { ⌜ lower ≤ 4096 ⌝ }
-    ensures { λ r. ⌜ So r ↔ Flexible lower (bound upper) ⌝ }
-{
-    again(upper) & (lower < upper)
-}
-
 // An empty node or an event.
-fn leaf_sets(node: u64) -> Sets
+fn leaf_sets(node: u64) -> PartSets
     requires { ⌜ kindOf (unpacked node) < 2 ⌝ }
     requires { ⌜ InTable (unpacked node) ⌝ }
     ensures { λ x. ⌜ OfLeaf (unpacked node) x ⌝ }
 {
     if entry::kind_of(node) == entry::EMPTY {
-        return Sets {
+        return PartSets {
             nullable: true,
             first: codes::none(),
             after: codes::none(),
             conflict: Found::Nothing,
         };
     }
-    Sets {
+    PartSets {
         nullable: false,
         first: codes::one(entry::code_of(node)),
         after: codes::none(),
@@ -80,13 +62,13 @@ fn leaf_sets(node: u64) -> Sets
 }
 
 // The choice at node i.
-fn choice_sets(i: usize, l: Sets, r: Sets) -> Sets
+fn choice_sets(i: usize, l: PartSets, r: PartSets) -> PartSets
     ensures { λ x. ⌜ Joins choice i l r x ⌝ }
 {
     let left = l.conflict;
     let right = r.conflict;
     let own = conflict::shared_at(i, conflict::CHOICE, l.first, r.first);
-    Sets {
+    PartSets {
         nullable: l.nullable | r.nullable,
         first: codes::union(l.first, r.first),
         after: codes::union(l.after, r.after),
@@ -95,7 +77,7 @@ fn choice_sets(i: usize, l: Sets, r: Sets) -> Sets
 }
 
 // The sequence at node i.
-fn sequence_sets(i: usize, l: Sets, r: Sets) -> Sets
+fn sequence_sets(i: usize, l: PartSets, r: PartSets) -> PartSets
     ensures { λ x. ⌜ Joins sequence i l r x ⌝ }
 {
     let left = l.conflict;
@@ -106,7 +88,7 @@ fn sequence_sets(i: usize, l: Sets, r: Sets) -> Sets
     let at_start = conflict::shared_at(i, conflict::EMPTY_LEFT, l.first, begins);
     let at_seam = conflict::shared_at(i, conflict::AFTER_LEFT, l.after, r.first);
     let own = conflict::or_else(at_start, at_seam);
-    Sets {
+    PartSets {
         nullable: l.nullable & r.nullable,
         first: codes::union(l.first, begins),
         after: codes::union(r.after, only_if(r.nullable, codes::union(l.after, follows))),
@@ -115,20 +97,16 @@ fn sequence_sets(i: usize, l: Sets, r: Sets) -> Sets
 }
 
 // The repeat at node i.
-fn repeat_sets(i: usize, node: u64, b: Sets) -> Sets
-    requires { ⌜ lowerOf (unpacked node) ≤ 4096 ⌝ }
-    ensures { λ x. ⌜ Repeats i (lowerOf (unpacked node)) (upperOf (unpacked node)) b x ⌝ }
+fn repeat_sets(i: usize, node: u64, b: PartSets) -> PartSets
+    ensures { λ x. ⌜ OverBody i (lowerOf (unpacked node)) (upperOf (unpacked node)) b x ⌝ }
 {
-    let lower = entry::lower_of(node);
-    let upper = entry::upper_of(node);
     let body = b.conflict;
     // First of the body: where another block may follow, and where it may follow or not.
-    let follows = only_if(again(upper), b.first);
+    let follows = only_if(bounds::again(node), b.first);
+    let may_follow = only_if(bounds::flexible(node, b.nullable), b.first);
     let own = conflict::shared_at(i, conflict::REPEAT, b.after, follows);
-    let least = entry::normal_lower(b.nullable, lower);
-    let may_follow = only_if(flexible(least, upper), b.first);
-    Sets {
-        nullable: (lower == 0) | b.nullable,
+    PartSets {
+        nullable: (entry::lower_of(node) == 0) | b.nullable,
         first: b.first,
         after: codes::union(b.after, may_follow),
         conflict: conflict::or_else(body, own),
@@ -136,10 +114,8 @@ fn repeat_sets(i: usize, node: u64, b: Sets) -> Sets
 }
 
 // The part at node i. Each of its nodes is visited once, the node number falling at each call.
-pub fn sets_of(nodes: &[u64; 512], i: usize) -> Sets
-    requires { ⌜ i < 512 ⌝ }
-    requires { ⌜ InOrder (held (now nodes)) i ⌝ }
-    requires { ⌜ TableUpTo (held (now nodes)) i ⌝ }
+pub fn sets_of(nodes: &[u64; 512], i: usize) -> PartSets
+    requires { ⌜ OneOf (now nodes) i ⌝ }
     ensures { λ x. ⌜ SetsAt (held (now (nodes .entry))) i x ⌝ }
 {
     let node = nodes[i];

@@ -14,7 +14,7 @@ use Rattle.meaning.specs.theory.Places.{Place, nodeOf, CanStart}
 use Rattle.meaning.specs.theory.Ways.{Entry, enters, apart, entry, mapEntry}
 use Rattle.meaning.proofs.expressions.Parts.{root-size}
 use Rattle.procedure.specs.Entry.{kindOf}
-use Rattle.plan.specs.Plan.{beginsAt, startAt, Own, Planned, startsOf}
+use Rattle.plan.specs.Plan.{beginsAt, beginsOf, Planned, startAt}
 
 -- no part begins with a node outside it
 pub outside : (s : ℕ) (e : Expr) (q : ℕ) → (q < s) ⊎ (s + size e ≤ q) → entry s e q ≡ apart
@@ -112,43 +112,43 @@ begins g plan s (repeat b lower upper) a h q st pl k from below =
     (λ e. absurd (omega (arith, kind-apart (st .1 .1) (subst (λ (i : ℕ). kindOf (g i) ≡ 1) e k))))
 
 -- the part begins with node q, or it does not, by a test
-pub data Starts (s : ℕ) (e : Expr) (q : ℕ) : Bool → Type 0 where
-  does : (t : Place e) → entry s e q ≡ enters t → CanStart e t → nodeOf s e t ≡ q → Starts s e q true
-  does-not : entry s e q ≡ apart → Starts s e q false
+pub data BeginsWith (s : ℕ) (e : Expr) (q : ℕ) : Bool → Type 0 where
+  does : (t : Place e) → entry s e q ≡ enters t → CanStart e t → nodeOf s e t ≡ q → BeginsWith s e q true
+  does-not : entry s e q ≡ apart → BeginsWith s e q false
 
 -- an event node, or one past all nodes
 pub data Target (g : ℕ → Node) (n q : ℕ) : Type 0 where
   at : kindOf (g q) ≡ 1 → Target g n q
   past : n ≤ q → Target g n q
 
-by-test : (plan : List ℕ) (s : ℕ) (e : Expr) (h q : ℕ) → root s e ≤ h → startAt plan (root s e) ≡ s → s ≤ q → q ≤ root s e
-    → Begun plan s e h q → Starts s e q (startsOf plan (root s e) q)
-by-test plan s e h q up st from below (begun t f c n b) =
+by-test : (starts plan : List ℕ) (s : ℕ) (e : Expr) (h q : ℕ) → root s e ≤ h → startAt starts (root s e) ≡ s → s ≤ q → q ≤ root s e
+    → Begun plan s e h q → BeginsWith s e q (beginsOf starts plan (root s e) q)
+by-test starts plan s e h q up st from below (begun t f c n b) =
     rw (
-      le-leb (startAt plan (root s e)) q (omega arith),
+      le-leb (startAt starts (root s e)) q (omega arith),
       le-leb q (root s e) below,
       le-leb (root s e) (beginsAt plan q) (omega arith),
     )
     (does t f c n)
-by-test plan s e h q up st from below (inner f b) =
+by-test starts plan s e h q up st from below (inner f b) =
     rw (
-      le-leb (startAt plan (root s e)) q (omega arith),
+      le-leb (startAt starts (root s e)) q (omega arith),
       le-leb q (root s e) below,
       lt-leb (root s e) (beginsAt plan q) b,
     )
     (does-not f)
 
 -- one comparison tells whether a part begins with node q
-pub starts-by-test : (g : ℕ → Node) (plan : List ℕ) (n s : ℕ) (e : Expr) (a h q : ℕ) → Stands g s e → Planned plan s e a h → Own plan s e
-    → root s e ≤ h → s + size e ≤ n → Target g n q → Starts s e q (startsOf plan (root s e) q)
-starts-by-test g plan n s e a h q st pl ow up fit target = within (decLe s q) (decLe q (root s e)) target
+pub begins-by-test : (g : ℕ → Node) (starts plan : List ℕ) (n s : ℕ) (e : Expr) (a h q : ℕ) → Stands g s e → Planned plan s e a h
+    → startAt starts (root s e) ≡ s → root s e ≤ h → s + size e ≤ n → Target g n q → BeginsWith s e q (beginsOf starts plan (root s e) q)
+begins-by-test g starts plan n s e a h q st pl first up fit target = within (decLe s q) (decLe q (root s e)) target
   where
-    within : Dec (s ≤ q) → Dec (q ≤ root s e) → Target g n q → Starts s e q (startsOf plan (root s e) q)
+    within : Dec (s ≤ q) → Dec (q ≤ root s e) → Target g n q → BeginsWith s e q (beginsOf starts plan (root s e) q)
     within (yes f) (yes b) (at k) =
-        by-test plan s e h q up (ow .starts) f b (begins g plan s e a h q st pl k f (omega (arith, root-size s e)))
+        by-test starts plan s e h q up first f b (begins g plan s e a h q st pl k f (omega (arith, root-size s e)))
     within (yes f) (yes b) (past k) = absurd (omega (arith, root-size s e))
     within (yes f) (no b) w =
-        rw (le-leb (startAt plan (root s e)) q (omega (arith, ow .starts)), lt-leb q (root s e) (omega arith))
+        rw (le-leb (startAt starts (root s e)) q (omega arith), lt-leb q (root s e) (omega arith))
         (does-not (outside s e q (inr (omega (arith, root-size s e)))))
     within (no f) b w =
-        rw (lt-leb (startAt plan (root s e)) q (omega (arith, ow .starts))) (does-not (outside s e q (inl (omega arith))))
+        rw (lt-leb (startAt starts (root s e)) q (omega arith)) (does-not (outside s e q (inl (omega arith))))

@@ -2,6 +2,5 @@
 pub mod Tests
 pub mod Beginnings
 mod Downward
-mod Upward
 pub mod Whole
 pub mod Links

@@ -1,108 +1,61 @@
--- What each kind of node comes to in the two passes. Assumes nothing.
+-- What each kind of node tells its children, and how the pass goes on. Assumes nothing.
 use mathlib.Core.Path.{_≡_, refl, sym, ap, _∙_}
-use mathlib.Core.Bool.{cond}
+use mathlib.Core.Bool.{Bool, false}
 use mathlib.Core.List.{List}
 use Prim.Native.Nat.{ℕ, suc, _+_, _-_, _≤_, _<_}
 use native.Mathlib.Omega.{arith}
 use borrow.Author.Tests.{eq-eqb, ne-eqb, lt-ltb, le-ltb}
-use lib.Dec.{eqb}
-use lib.ListN.{length}
-use Rattle.meaning.specs.Expr.{Expr, size}
-use Rattle.meaning.specs.Node.{Node, node, isRepeat}
-use Rattle.meaning.proofs.expressions.Parts.{root-size}
-use Rattle.procedure.specs.Entry.{kindOf, leftOf, lowerOf}
-use Rattle.plan.specs.Plan.{aboveAt, beginsAt, startAt, emptyAt}
-use Rattle.plan.specs.Filling.{startWith, emptyOver, emptyWith, tell, linkWith, link, down, UpTo}
+use lib.ListN.{getD}
+use Rattle.meaning.specs.Node.{Node, node, isRepeat, repeatsBelow}
+use Rattle.meaning.proofs.file.Ranks.{more-below}
+use Rattle.procedure.specs.Entry.{held, kindOf, leftOf}
+use Rattle.plan.specs.Plan.{aboveAt, beginsAt}
+use Rattle.plan.specs.Filling.{beginsRight, down, linkWith, rankTo, tell}
 use Rattle.plan.proofs.Tests.{taken-as, left}
 
-pub repeat-bit : (m : Node) → kindOf m ≡ 4 → 1 ≡ isRepeat m
-repeat-bit (node k c x y z) e = sym (ap (λ (i : ℕ). cond (eqb i 4) 1 0) e)
+pub link-leaf : (m : Node) (nulls : List Bool) (p : List ℕ) (i : ℕ) → kindOf m < 2 → p ≡ linkWith m nulls p i
+link-leaf m nulls p i k = taken-as _ p _ p (lt-ltb (kindOf m) 2 k) refl
 
-pub other-bit : (m : Node) → (kindOf m ≡ 4 → ⊥) → 0 ≡ isRepeat m
-other-bit (node k c x y z) e = rw (ne-eqb k 4 e)
+-- a node with children; a and h stand in its own link
+module _ (m : Node) (nulls : List Bool) (p : List ℕ) (i a h : ℕ) (some : 2 ≤ kindOf m) (above : a ≡ aboveAt p i) (begins : h ≡ beginsAt p i) where
+  pub link-repeat : (d : List ℕ) → kindOf m ≡ 4 → d ≡ tell p (i - 1) i h → d ≡ linkWith m nulls p i
+  link-repeat d k f = left _ p _ d (le-ltb (kindOf m) 2 some) (taken-as _ _ _ d (eq-eqb (kindOf m) 4 k) (f ∙ ap (tell p (i - 1) i) begins))
 
--- ---- upward
+  pub link-sequence : (c d : List ℕ) (l r : ℕ) → kindOf m ≡ 3 → l ≡ leftOf m → r ≡ beginsRight (getD nulls l false) h (i - 1)
+      → c ≡ tell p l i h → d ≡ tell c (i - 1) a r → d ≡ linkWith m nulls p i
+  link-sequence c d l r k el er f g =
+      left _ p _ d (le-ltb (kindOf m) 2 some)
+      (left _ _ _ d (ne-eqb (kindOf m) 4 (λ x. omega arith))
+      (taken-as _ _ _ d (eq-eqb (kindOf m) 3 k)
+      (g
+      ∙ ap (λ (x : List ℕ). tell x (i - 1) a r) f
+      ∙ ap (λ (y : ℕ). tell (tell p l i h) (i - 1) a y) er
+      ∙ ap (λ (y : ℕ). tell (tell p y i h) (i - 1) a (beginsRight (getD nulls y false) h (i - 1))) el
+      ∙ ap (λ (y : ℕ). tell (tell p (leftOf m) i y) (i - 1) a (beginsRight (getD nulls (leftOf m) false) y (i - 1))) begins
+      ∙ ap (λ (y : ℕ). tell (tell p (leftOf m) i (beginsAt p i)) (i - 1) y (beginsRight (getD nulls (leftOf m) false) (beginsAt p i) (i - 1))) above)))
 
-pub empty-repeat : (m : Node) (p : List ℕ) (i r : ℕ) → kindOf m ≡ 4 → r ≡ cond (eqb (lowerOf m) 0) 1 (emptyAt p (i - 1)) → r ≡ emptyOver m p i
-empty-repeat m p i r k e = taken-as _ _ _ r (eq-eqb (kindOf m) 4 k) e
+  pub link-choice : (c d : List ℕ) (l : ℕ) → (kindOf m ≡ 4 → ⊥) → (kindOf m ≡ 3 → ⊥) → l ≡ leftOf m
+      → c ≡ tell p l a h → d ≡ tell c (i - 1) a h → d ≡ linkWith m nulls p i
+  link-choice c d l x y el f g =
+      left _ p _ d (le-ltb (kindOf m) 2 some)
+      (left _ _ _ d (ne-eqb (kindOf m) 4 x)
+      (left _ _ _ d (ne-eqb (kindOf m) 3 y)
+      (g
+      ∙ ap (λ (x : List ℕ). tell x (i - 1) a h) f
+      ∙ ap (λ (y : ℕ). tell (tell p y a h) (i - 1) a h) el
+      ∙ ap (λ (y : ℕ). tell (tell p (leftOf m) y h) (i - 1) y h) above
+      ∙ ap (λ (y : ℕ). tell (tell p (leftOf m) (aboveAt p i) y) (i - 1) (aboveAt p i) y) begins)))
 
-pub empty-sequence : (m : Node) (p : List ℕ) (i r l : ℕ) → kindOf m ≡ 3 → l ≡ leftOf m → r ≡ cond (eqb (emptyAt p l) 1) (emptyAt p (i - 1)) 0 → r ≡ emptyOver m p i
-empty-sequence m p i r l k f e =
-    left _ _ _ r (ne-eqb (kindOf m) 4 (λ h. omega arith))
-    (taken-as _ _ _ r (eq-eqb (kindOf m) 3 k) (e ∙ ap (λ (y : ℕ). cond (eqb (emptyAt p y) 1) (emptyAt p (i - 1)) 0) f))
+-- the node below i counts where it is a repeat
+pub count-down : (g : ℕ → Node) (i : ℕ) → 1 ≤ i → repeatsBelow g i ≡ repeatsBelow g (i - 1) + isRepeat (g (i - 1))
+count-down g i h = more-below g (i - 1) i (omega arith)
 
-pub empty-choice : (m : Node) (p : List ℕ) (i r l : ℕ) → (kindOf m ≡ 4 → ⊥) → (kindOf m ≡ 3 → ⊥) → l ≡ leftOf m
-    → r ≡ cond (eqb (emptyAt p l) 1) 1 (emptyAt p (i - 1))
-    → r ≡ emptyOver m p i
-empty-choice m p i r l k j f e =
-    left _ _ _ r (ne-eqb (kindOf m) 4 k)
-    (left _ _ _ r (ne-eqb (kindOf m) 3 j) (e ∙ ap (λ (y : ℕ). cond (eqb (emptyAt p y) 1) 1 (emptyAt p (i - 1))) f))
+-- one node fewer is left: k repeats stand below it
+pub down-one : (nodes : List ℕ) (nulls : List Bool) (p q d z : List ℕ) (i j k : ℕ) → i ≡ suc j → k ≡ repeatsBelow (held nodes) j → q ≡ rankTo p j k
+    → d ≡ linkWith (held nodes j) nulls q j → down nodes nulls p i ≡ z → down nodes nulls d j ≡ z
+down-one nodes nulls p q d z i j k e ek eq f w =
+    let ranked : q ≡ rankTo p j (repeatsBelow (held nodes) j) = eq ∙ ap (rankTo p j) ek in
+    ap (λ (x : List ℕ). down nodes nulls x j) (f ∙ ap (λ (x : List ℕ). linkWith (held nodes j) nulls x j) ranked) ∙ sym (ap (down nodes nulls p) e) ∙ w
 
-module _ (m : Node) (p : List ℕ) (i r : ℕ) where
-  pub start-leaf : kindOf m < 2 → r ≡ i → r ≡ startWith m p i
-  start-leaf k e = taken-as _ _ _ r (lt-ltb (kindOf m) 2 k) e
-
-  pub start-over : 2 ≤ kindOf m → r ≡ startAt p (leftOf m) → r ≡ startWith m p i
-  start-over k e = left _ i _ r (le-ltb (kindOf m) 2 k) e
-
-  pub empty-leaf : kindOf m < 2 → r ≡ 1 - kindOf m → r ≡ emptyWith m p i
-  empty-leaf k e = taken-as _ _ _ r (lt-ltb (kindOf m) 2 k) e
-
-  pub empty-over : 2 ≤ kindOf m → r ≡ emptyOver m p i → r ≡ emptyWith m p i
-  empty-over k e = left _ (1 - kindOf m) _ r (le-ltb (kindOf m) 2 k) e
-
-pub up-none : (nodes p : List ℕ) → length p ≡ 512 → UpTo nodes p 0
-up-none nodes p l = record {
-  ranks = λ j h. absurd (omega arith);
-  from = λ j h. absurd (omega arith);
-  own = λ s d st h. absurd (none s d h);
-  long = l;
-}
-  where
-    none : (s : ℕ) (d : Expr) → s + size d ≤ 0 → ⊥
-    none s d h = omega (arith, root-size s d)
-
--- ---- downward
-
-pub link-leaf : (m : Node) (p : List ℕ) (i : ℕ) → kindOf m < 2 → p ≡ linkWith m p i
-link-leaf m p i k =
-    left _ _ _ p (ne-eqb (kindOf m) 4 (λ h. omega arith))
-    (left _ _ _ p (ne-eqb (kindOf m) 3 (λ h. omega arith)) (left _ _ p p (ne-eqb (kindOf m) 2 (λ h. omega arith)) refl))
-
-pub link-other : (m : Node) (p : List ℕ) (i : ℕ) → (kindOf m ≡ 4 → ⊥) → (kindOf m ≡ 3 → ⊥) → (kindOf m ≡ 2 → ⊥) → p ≡ linkWith m p i
-link-other m p i a b c =
-    left _ _ _ p (ne-eqb (kindOf m) 4 a) (left _ _ _ p (ne-eqb (kindOf m) 3 b) (left _ _ p p (ne-eqb (kindOf m) 2 c) refl))
-
-pub link-repeat : (m : Node) (p d : List ℕ) (i h : ℕ) → kindOf m ≡ 4 → h ≡ beginsAt p i → d ≡ tell p (i - 1) i h → d ≡ linkWith m p i
-link-repeat m p d i h k e f = taken-as _ _ _ d (eq-eqb (kindOf m) 4 k) (f ∙ ap (tell p (i - 1) i) e)
-
-pub link-sequence : (m : Node) (p d : List ℕ) (i l a h r : ℕ) → kindOf m ≡ 3 → l ≡ leftOf m → a ≡ aboveAt p i → h ≡ beginsAt p i
-    → r ≡ cond (eqb (emptyAt p l) 1) h (i - 1) → d ≡ tell (tell p l i h) (i - 1) a r
-    → d ≡ linkWith m p i
-link-sequence m p d i l a h r k el ea eh er f =
-    left _ _ _ d (ne-eqb (kindOf m) 4 (λ x. omega arith))
-    (taken-as _ _ _ d (eq-eqb (kindOf m) 3 k)
-    (f
-    ∙ ap (λ (y : ℕ). tell (tell p l i h) (i - 1) a y) er
-    ∙ ap (λ (y : ℕ). tell (tell p y i h) (i - 1) a (cond (eqb (emptyAt p y) 1) h (i - 1))) el
-    ∙ ap (λ (y : ℕ). tell (tell p (leftOf m) i y) (i - 1) a (cond (eqb (emptyAt p (leftOf m)) 1) y (i - 1))) eh
-    ∙ ap (λ (y : ℕ). tell (tell p (leftOf m) i (beginsAt p i)) (i - 1) y (cond (eqb (emptyAt p (leftOf m)) 1) (beginsAt p i) (i - 1))) ea))
-
-pub link-choice : (m : Node) (p d : List ℕ) (i l a h : ℕ) → (kindOf m ≡ 4 → ⊥) → (kindOf m ≡ 3 → ⊥) → kindOf m ≡ 2 → l ≡ leftOf m
-    → a ≡ aboveAt p i → h ≡ beginsAt p i → d ≡ tell (tell p l a h) (i - 1) a h
-    → d ≡ linkWith m p i
-link-choice m p d i l a h x y k el ea eh f =
-    left _ _ _ d (ne-eqb (kindOf m) 4 x)
-    (left _ _ _ d (ne-eqb (kindOf m) 3 y)
-    (taken-as _ _ _ d (eq-eqb (kindOf m) 2 k)
-    (f
-    ∙ ap (λ (y : ℕ). tell (tell p y a h) (i - 1) a h) el
-    ∙ ap (λ (y : ℕ). tell (tell p (leftOf m) y h) (i - 1) y h) ea
-    ∙ ap (λ (y : ℕ). tell (tell p (leftOf m) (aboveAt p i) y) (i - 1) (aboveAt p i) y) eh)))
-
--- one node fewer is left
-pub down-one : (nodes p d z : List ℕ) (i j : ℕ) → i ≡ suc j → d ≡ link nodes p j → down nodes p i ≡ z → down nodes d j ≡ z
-down-one nodes p d z i j e f w = ap (λ (x : List ℕ). down nodes x j) f ∙ sym (ap (down nodes p) e) ∙ w
-
-pub down-done : (nodes p z : List ℕ) (i : ℕ) → i ≤ 0 → down nodes p i ≡ z → p ≡ z
-down-done nodes p z i h w = let zero-is : i ≡ 0 = omega arith in sym (ap (down nodes p) zero-is) ∙ w
+pub down-done : (nodes : List ℕ) (nulls : List Bool) (p z : List ℕ) (i : ℕ) → i ≤ 0 → down nodes nulls p i ≡ z → p ≡ z
+down-done nodes nulls p z i h w = let zero-is : i ≡ 0 = omega arith in sym (ap (down nodes nulls p) zero-is) ∙ w

@@ -1,4 +1,4 @@
 -- What the contracts of the plan cite.
 pub mod Filling
+pub mod Link
 pub mod Plan
-pub mod Table

@@ -34,6 +34,15 @@ packed-unpacked k c x y z hk hc hx hy =
     let last = above n z 281474976710656 (k + 256 * c + 65536 * x + 4294967296 * y) (omega arith) (omega arith) in
     λ i. node (first i) (code i) (left i) (middle i) (last i)
 
+-- an entry is the number that its node packs to
+pub repacked : (x : ℕ) → packed (unpacked x) ≡ x
+unfolding unpacked
+repacked x =
+    let a : x / 256 ≡ x / 256 % 256 + 256 * (x / 65536) = omega arith in
+    let b : x / 65536 ≡ x / 65536 % 65536 + 65536 * (x / 4294967296) = omega arith in
+    let c : x / 4294967296 ≡ x / 4294967296 % 65536 + 65536 * (x / 281474976710656) = omega arith in
+    omega arith
+
 -- from 65,536 on, a field is not 0
 pub field-over : (x : ℕ) → 65535 < x → NoFields (unpacked x) → ⊥
 unfolding unpacked

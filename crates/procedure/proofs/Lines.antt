@@ -90,6 +90,3 @@ upper-kept (repeat-line b lower upper h u l) other = absurd (other refl)
 
 pub event-kept : (n : Node) → InTable n → kindOf n ≡ 1 → codeOf n ≤ 63
 event-kept n t e = told 1 n e .0 t .0
-
-pub bounds-kept : (n : Node) → InTable n → kindOf n ≡ 4 → BoundsWritten (lowerOf n) (upperOf n)
-bounds-kept n t e = told 4 n e .0 t .1

@@ -1,28 +1,41 @@
--- What whoever reads a file may use of its entries. Assumes nothing.
-use mathlib.Core.Path.{_≡_, sym, subst, _∙_}
+-- What whoever stands above the file may use of a listing. Assumes nothing.
+use mathlib.Core.Path.{_≡_}
 use mathlib.Core.List.{List}
-use Prim.Native.Nat.{ℕ, _≤_, _<_}
+use Prim.Native.Nat.{ℕ, _-_, _≤_, _<_}
 use native.Mathlib.Omega.{arith}
-use Rattle.meaning.specs.Expr.{size}
-use Rattle.meaning.specs.Node.{InTable, Stands}
-use Rattle.meaning.specs.File.{nodeAt}
+use Rattle.meaning.specs.Expr.{Expr, root}
+use Rattle.meaning.specs.Node.{InOrder, InTable}
 use Rattle.meaning.proofs.expressions.Parts.{root-size}
-use Rattle.meaning.proofs.file.Files.{stands-same}
 use Rattle.procedure.specs.Entry.{held}
-use Rattle.procedure.specs.Opening.{Filled}
-pub use Rattle.procedure.proofs.Lines.{bounds-kept, code-kept, event-kept, kind-kept, upper-kept}
+use Rattle.procedure.specs.Listing.{Listing, OneOf}
+use Rattle.procedure.proofs.Standing.{inner-order}
+pub use Rattle.procedure.proofs.Lines.{code-kept, event-kept, kind-kept, upper-kept}
 
-module _ {f nodes : List ℕ} {n : ℕ} (o : Filled f nodes n) where
-  pub nodes-counted : (1 ≤ n) × (n ≤ 512)
-  nodes-counted = let m = o .holds .formed .framed .2 in (omega (arith, o .counted, m .0), omega (arith, o .counted, m .1))
+-- every node of it is in order
+pub listing-order : {nodes : List ℕ} {n : ℕ} {e : Expr} → Listing nodes n e → (i : ℕ) → i < n → InOrder (held nodes) i
+listing-order {nodes} {n} {e} l i h = inner-order (held nodes) 0 e (l .stands) i (omega arith) (omega (arith, l .sized))
 
-  -- the expression stands in the entries, and has n nodes
-  pub nodes-listed : Stands (held nodes) 0 (o .expr) × (size (o .expr) ≡ n)
-  nodes-listed =
-      let e = o .expr in
-      let lists = o .holds .formed .lists in
-      let all : size e ≡ n = lists .1 ∙ sym (o .counted) in
-      (stands-same (nodeAt f) (held nodes) n 0 e (λ i l. sym (o .tied i l)) (omega (arith, root-size 0 e)) (lists .0), all)
+-- its last node is the root
+pub listing-root : {nodes : List ℕ} {n : ℕ} {e : Expr} → Listing nodes n e → root 0 e ≡ n - 1
+listing-root {nodes} {n} {e} l = omega (arith, root-size 0 e, l .sized)
 
-  pub nodes-kept : (i : ℕ) → i < n → InTable (held nodes i)
-  nodes-kept i l = subst InTable (sym (o .tied i l)) (o .holds .formed .table i (omega (arith, o .counted)))
+pub listing-some : {nodes : List ℕ} {n : ℕ} {e : Expr} → Listing nodes n e → 1 ≤ n
+listing-some {nodes} {n} {e} l = omega (arith, root-size 0 e, l .sized)
+
+-- ---- one of its nodes
+
+pub one-of : {nodes : List ℕ} {n : ℕ} {e : Expr} → Listing nodes n e → (i : ℕ) → i < n → OneOf nodes i
+one-of {nodes} {n} {e} l i h = (n, e, l, h)
+
+pub one-small : {nodes : List ℕ} (i : ℕ) → OneOf nodes i → i < 512
+one-small i o = omega (arith, o .2 .few, o .3)
+
+pub one-ordered : {nodes : List ℕ} (i : ℕ) → OneOf nodes i → InOrder (held nodes) i
+one-ordered i o = listing-order (o .2) i (o .3)
+
+pub one-in-table : {nodes : List ℕ} (i : ℕ) → OneOf nodes i → InTable (held nodes i)
+one-in-table i o = o .2 .table i (o .3)
+
+-- so is every lower one
+pub one-lower : {nodes : List ℕ} (i j : ℕ) → j ≤ i → OneOf nodes i → OneOf nodes j
+one-lower i j h o = (o .0, o .1, o .2, omega (arith, o .3))

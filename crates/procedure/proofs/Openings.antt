@@ -1,5 +1,6 @@
 -- From what is found in the entries to what the meaning says of the file. Assumes nothing.
 use mathlib.Core.Path.{_≡_, sym, ap, subst, _∙_}
+use mathlib.Core.Bool.{Bool}
 use mathlib.Core.List.{List}
 use Prim.Native.Nat.{ℕ, suc, _-_, _≤_, _<_}
 use native.Mathlib.Omega.{arith}
@@ -10,11 +11,12 @@ use Rattle.meaning.proofs.expressions.Parts.{root-size}
 use Rattle.meaning.proofs.file.Files.{stands-same}
 use Rattle.procedure.specs.Entry.{Tied, held}
 use Rattle.procedure.specs.Opening.{Filled}
-use Rattle.procedure.specs.Parts.{Begins, OrderTested, broken, late, whole}
+use Rattle.procedure.specs.Listing.{Spans, TellsNulls, TellsRepeats, TellsStarts}
+use Rattle.procedure.specs.Order.{OrderTested, broken, late, whole}
 use Rattle.procedure.proofs.Counting.{same-count}
 
 -- what is found is no node: the nodes are one part
-pub tested-whole : {g : ℕ → Node} {n i : ℕ} → OrderTested g n i → n ≤ i → Begins g 0 (n - 1)
+pub tested-whole : {g : ℕ → Node} {n i : ℕ} → OrderTested g n i → n ≤ i → Spans g 0 (n - 1)
 tested-whole (broken i l below bad) h = absurd (omega arith)
 tested-whole (late i e below bad) h = absurd (omega arith)
 tested-whole (whole b) h = b
@@ -51,7 +53,7 @@ module _ (f nodes : List ℕ) (n : ℕ) (framed : Framed f) (here : n ≡ count 
     out-of-order (whole b) h = absurd (omega arith)
 
     -- the nodes are one part
-    module _ (b : Begins (held nodes) 0 (n - 1)) where
+    module _ (b : Spans (held nodes) 0 (n - 1)) where
       formed : WellFormed f (b .0)
       formed =
           let r = root-size 0 (b .0) in
@@ -62,13 +64,25 @@ module _ (f nodes : List ℕ) (n : ℕ) (framed : Framed f) (here : n ≡ count 
             lists = (stands-same (held nodes) (nodeAt f) n 0 (b .0) tied (omega (arith, b .2)) (b .1), omega (arith, b .2));
           }
 
-      pub too-many : (i : ℕ) → i < n → (repeatsBelow (held nodes) i ≡ 32) × (repeatsBelow (held nodes) (suc i) ≡ 33) → Refused f (Repeats i)
-      too-many i l p =
+      pub too-many : (i : ℕ) → (i < n) × (repeatsBelow (held nodes) i ≡ 32) × (repeatsBelow (held nodes) (suc i) ≡ 33) → Refused f (Repeats i)
+      too-many i p =
           let same = same-count (held nodes) (nodeAt f) n tied in
-          by-repeats (b .0) i formed (omega arith) (sym (same i (omega arith)) ∙ p .0) (sym (same (suc i) l) ∙ p .1)
+          by-repeats (b .0) i formed (omega (arith, p .0)) (sym (same i (omega (arith, p .0))) ∙ p .1) (sym (same (suc i) (p .0)) ∙ p .2)
 
-      pub filled : repeatsBelow (held nodes) n ≤ 32 → Filled f nodes n
-      filled few =
+      pub filled : (starts : List ℕ) (nulls : List Bool) (list : List ℕ) (r : ℕ) → TellsStarts (held nodes) starts n → TellsNulls (held nodes) nulls n
+          → TellsRepeats (held nodes) list n r → r ≤ 32 → Filled f nodes starts nulls list n r
+      filled starts nulls list r begun empties ranked few =
           let same = same-count (held nodes) (nodeAt f) n tied n (omega arith) ∙ ap (repeatsBelow (nodeAt f)) here in
-          let within = subst (λ (k : ℕ). k ≤ 32) same few in
-          record { counted = here; expr = b .0; holds = record { formed = formed; few = within }; tied = tied }
+          let size = root-size 0 (b .0) in
+          let most = framed .2 .1 in
+          record {
+            expr = b .0;
+            holds = record { formed = formed; few = omega (arith, ranked .counted) };
+            tables = record {
+              listing = record { stands = b .1; sized = omega (arith, b .2, framed .2 .0); few = omega arith; table = table };
+              begun = begun;
+              empties = empties;
+              ranked = ranked;
+              few-repeats = few;
+            };
+          }

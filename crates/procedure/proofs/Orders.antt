@@ -4,7 +4,7 @@ use mathlib.Core.Logic.{_⊎_, inl, inr, ⊎-elim}
 use mathlib.Core.List.{List}
 use Prim.Native.Nat.{ℕ, _+_, _-_, _≤_, _<_}
 use native.Mathlib.Omega.{arith}
-use borrow.Author.Count.{below-more}
+use borrow.Author.Count.{below-more, below-none}
 use lib.ListN.{length, getD, set}
 use lib.Seq.{getD-set-same, getD-set-other}
 use Rattle.meaning.specs.Expr.{Expr, empty, event, choice, sequence, repeat, size, root}
@@ -12,7 +12,8 @@ use Rattle.meaning.specs.Node.{Node, node, InTable, InOrder, Stands, bound, emp
 use Rattle.meaning.proofs.expressions.Parts.{root-size}
 use Rattle.meaning.proofs.file.Files.{stands-unique}
 use Rattle.procedure.specs.Entry.{kindOf, leftOf, rightOf, bodyOf, lowerOf, upperOf}
-use Rattle.procedure.specs.Parts.{Begins, OrderTested, OrderedBelow, Started, late, whole}
+use Rattle.procedure.specs.Listing.{Spans, TellsStarts}
+use Rattle.procedure.specs.Order.{OrderTested, OrderedBelow, late, whole}
 
 size-pos : (e : Expr) → 1 ≤ size e
 size-pos empty = omega arith
@@ -22,11 +23,11 @@ size-pos (sequence l r) = omega arith
 size-pos (repeat b lower upper) = omega arith
 
 -- a part begins at or below its own node
-pub begins-below : (g : ℕ → Node) (s i : ℕ) → Begins g s i → s ≤ i
-begins-below g s i b = omega (arith, root-size s (b .0), size-pos (b .0), b .2)
+pub spans-below : (g : ℕ → Node) (s i : ℕ) → Spans g s i → s ≤ i
+spans-below g s i b = omega (arith, root-size s (b .0), size-pos (b .0), b .2)
 
-begins-unique : (g : ℕ → Node) (s t i : ℕ) → Begins g s i → Begins g t i → s ≡ t
-begins-unique g s t i b d = stands-unique g s t (b .0) (d .0) (b .1) (d .1) (b .2 ∙ sym (d .2)) .0
+spans-unique : (g : ℕ → Node) (s t i : ℕ) → Spans g s i → Spans g t i → s ≡ t
+spans-unique g s t i b d = stands-unique g s t (b .0) (d .0) (b .1) (d .1) (b .2 ∙ sym (d .2)) .0
 
 -- ---- a node of the table, from its kind
 
@@ -54,11 +55,11 @@ repeat-node (repeat-line b lower upper l u k) h = refl
 
 -- ---- a node whose children stand before it is in order
 
-pub leaf-begins : (g : ℕ → Node) (i : ℕ) → InTable (g i) → kindOf (g i) < 2 → Begins g i i
-leaf-begins g i t h = ⊎-elim (λ p. (empty, p, refl)) (λ p. (event (p .0), p .1, refl)) (leaf-node t h)
+pub leaf-spans : (g : ℕ → Node) (i : ℕ) → InTable (g i) → kindOf (g i) < 2 → Spans g i i
+leaf-spans g i t h = ⊎-elim (λ p. (empty, p, refl)) (λ p. (event (p .0), p .1, refl)) (leaf-node t h)
 
-pub repeat-begins : (g : ℕ → Node) (s i : ℕ) → InTable (g i) → kindOf (g i) ≡ 4 → 1 ≤ i → bodyOf (g i) ≡ i - 1 → Begins g s (i - 1) → Begins g s i
-repeat-begins g s i t k h body b =
+pub repeat-spans : (g : ℕ → Node) (s i : ℕ) → InTable (g i) → kindOf (g i) ≡ 4 → 1 ≤ i → bodyOf (g i) ≡ i - 1 → Spans g s (i - 1) → Spans g s i
+repeat-spans g s i t k h body b =
     let e = b .0 in
     let here : s + size e ≡ i = omega (arith, root-size s e, b .2) in
     let named : bodyOf (g i) ≡ root s e = body ∙ sym (b .2) in (
@@ -78,9 +79,9 @@ pair-at g k s t i l r h ht el er left right e =
     let b : rightOf (g i) ≡ root (s + size l) r = right ∙ sym er ∙ ap (λ (x : ℕ). root x r) (sym next) in
     (next, here, ap g here ∙ e ∙ (λ j. node k 0 (a j) (b j) 0))
 
-pub pair-begins : (g : ℕ → Node) (s t i : ℕ) → InTable (g i) → 2 ≤ kindOf (g i) → ¬ (kindOf (g i) ≡ 4) → 1 ≤ i → rightOf (g i) ≡ i - 1
-    → Begins g t (i - 1) → 1 ≤ t → leftOf (g i) ≡ t - 1 → Begins g s (t - 1) → Begins g s i
-pair-begins g s t i table k4 k h right br ht left bl =
+pub pair-spans : (g : ℕ → Node) (s t i : ℕ) → InTable (g i) → 2 ≤ kindOf (g i) → ¬ (kindOf (g i) ≡ 4) → 1 ≤ i → rightOf (g i) ≡ i - 1
+    → Spans g t (i - 1) → 1 ≤ t → leftOf (g i) ≡ t - 1 → Spans g s (t - 1) → Spans g s i
+pair-spans g s t i table k4 k h right br ht left bl =
     let l = bl .0 in
     let r = br .0 in
     ⊎-elim
@@ -99,7 +100,7 @@ Single g i = (kindOf (g i) ≡ 4) × (1 ≤ i) × (bodyOf (g i) ≡ i - 1)
 -- a choice or a sequence: its right child is the node before it, its left child the node before the right part
 abbrev Pair : (ℕ → Node) → ℕ → Type 0
 Pair g i =
-    (1 ≤ i) × (kindOf (g i) < 4) × (rightOf (g i) ≡ i - 1) × ((t : ℕ) × Begins g t (i - 1) × (1 ≤ t) × (leftOf (g i) ≡ t - 1))
+    (1 ≤ i) × (kindOf (g i) < 4) × (rightOf (g i) ≡ i - 1) × ((t : ℕ) × Spans g t (i - 1) × (1 ≤ t) × (leftOf (g i) ≡ t - 1))
 
 abbrev Shape : (ℕ → Node) → ℕ → Type 0
 Shape g i = (kindOf (g i) < 2) ⊎ (Single g i ⊎ Pair g i)
@@ -139,34 +140,47 @@ body-off g i k h o = ⊎-elim (λ p. omega arith) (⊎-elim (λ p. h (p .2)) (λ
 pub right-off : (g : ℕ → Node) (i : ℕ) → 2 ≤ kindOf (g i) → ¬ (kindOf (g i) ≡ 4) → ¬ (rightOf (g i) ≡ i - 1) → ¬ InOrder g i
 right-off g i k4 k h o = h (paired g i k4 k o .2)
 
-pub left-off : (g : ℕ → Node) (t i : ℕ) → 2 ≤ kindOf (g i) → ¬ (kindOf (g i) ≡ 4) → Begins g t (i - 1)
+pub left-off : (g : ℕ → Node) (t i : ℕ) → 2 ≤ kindOf (g i) → ¬ (kindOf (g i) ≡ 4) → Spans g t (i - 1)
     → ¬ ((1 ≤ t) × (leftOf (g i) ≡ t - 1)) → ¬ InOrder g i
 left-off g t i k4 k b h o =
     let p = paired g i k4 k o .3 in
-    let same = begins-unique g (p .0) t (i - 1) (p .1) b in
+    let same = spans-unique g (p .0) t (i - 1) (p .1) b in
     h (subst (λ (x : ℕ). (1 ≤ x) × (leftOf (g i) ≡ x - 1)) same (p .2, p .3))
 
 -- ---- the starts, one by one
 
-pub started-more : (g : ℕ → Node) (starts : List ℕ) (i s v : ℕ) → i < length starts → Started g starts i → Begins g s i → v ≡ s → Started g (set starts i v) (i + 1)
-started-more g starts i s v h started b e =
-    below-more _ i
-    (λ j l. subst (λ (x : ℕ). Begins g x j) (sym (getD-set-other starts i j v 0 (omega arith))) (started j l))
-    (subst (λ (x : ℕ). Begins g x i) (sym (getD-set-same starts i v 0 h ∙ e)) b)
+pub starts-none : (g : ℕ → Node) (starts : List ℕ) → TellsStarts g starts 0
+unfolding TellsStarts
+starts-none g starts = below-none _
 
-pub started-ordered : (g : ℕ → Node) (starts : List ℕ) (i : ℕ) → Started g starts i → OrderedBelow g i
-started-ordered g starts i started j l = let b = started j l in (getD starts j 0, b .0, b .1, b .2)
+pub starts-more : (g : ℕ → Node) (starts : List ℕ) (i s v : ℕ) → i < length starts → TellsStarts g starts i → Spans g s i → v ≡ s → TellsStarts g (set starts i v) (i + 1)
+unfolding TellsStarts
+starts-more g starts i s v h told b e =
+    below-more _ i
+    (λ j l. subst (λ (x : ℕ). Spans g x j) (sym (getD-set-other starts i j v 0 (omega arith))) (told j l))
+    (subst (λ (x : ℕ). Spans g x i) (sym (getD-set-same starts i v 0 h ∙ e)) b)
+
+pub start-told : (g : ℕ → Node) (starts : List ℕ) (n i : ℕ) → TellsStarts g starts n → i < n → Spans g (getD starts i 0) i
+unfolding TellsStarts
+start-told g starts n i told l = told i l
+
+-- of a part that stands among the nodes
+pub start-of-part : (g : ℕ → Node) (starts : List ℕ) (n s : ℕ) (e : Expr) → TellsStarts g starts n → Stands g s e → root s e < n → getD starts (root s e) 0 ≡ s
+start-of-part g starts n s e told st l = spans-unique g _ s (root s e) (start-told g starts n (root s e) told l) (e, st, refl)
+
+pub starts-ordered : (g : ℕ → Node) (starts : List ℕ) (n : ℕ) → TellsStarts g starts n → OrderedBelow g n
+starts-ordered g starts n told j l = let b = start-told g starts n j told l in (getD starts j 0, b .0, b .1, b .2)
 
 -- every start is found: that of the last part decides
-pub late-start : (g : ℕ → Node) (starts : List ℕ) (n : ℕ) → 1 ≤ n → Started g starts n → 0 < getD starts (n - 1) 0 → OrderTested g n (n - 1)
-late-start g starts n h started l =
+pub late-start : (g : ℕ → Node) (starts : List ℕ) (n : ℕ) → 1 ≤ n → TellsStarts g starts n → 0 < getD starts (n - 1) 0 → OrderTested g n (n - 1)
+late-start g starts n h told l =
     late
     (n - 1)
     (omega arith)
-    (started-ordered g starts n started)
-    (λ b. omega (arith, begins-unique g (getD starts (n - 1) 0) 0 (n - 1) (started (n - 1) (omega arith)) b))
+    (starts-ordered g starts n told)
+    (λ b. omega (arith, spans-unique g (getD starts (n - 1) 0) 0 (n - 1) (start-told g starts n (n - 1) told (omega arith)) b))
 
-pub whole-start : (g : ℕ → Node) (starts : List ℕ) (n : ℕ) → 1 ≤ n → Started g starts n → getD starts (n - 1) 0 ≤ 0 → OrderTested g n n
-whole-start g starts n h started l =
+pub whole-start : (g : ℕ → Node) (starts : List ℕ) (n : ℕ) → 1 ≤ n → TellsStarts g starts n → getD starts (n - 1) 0 ≤ 0 → OrderTested g n n
+whole-start g starts n h told l =
     let first : getD starts (n - 1) 0 ≡ 0 = omega arith in
-    whole (subst (λ (s : ℕ). Begins g s (n - 1)) first (started (n - 1) (omega arith)))
+    whole (subst (λ (s : ℕ). Spans g s (n - 1)) first (start-told g starts n (n - 1) told (omega arith)))

@@ -7,7 +7,7 @@ use Rattle.meaning.specs.Expr.{Expr, empty, event, choice, sequence, repeat, si
 use Rattle.meaning.specs.Node.{Node, node, Stands, InOrder, bound}
 use Rattle.meaning.proofs.expressions.Parts.{root-size}
 use Rattle.procedure.specs.Entry.{kindOf, leftOf, lowerOf, upperOf}
-use Rattle.procedure.specs.Parts.{Begins}
+use Rattle.procedure.specs.Listing.{Spans}
 
 -- ---- the kind
 
@@ -125,7 +125,7 @@ last-order g i kind told k o = go (o .1) (o .2) (o .3) (told ∙ standing-kind g
 
 -- a node with two children
 pub at-pair : (D : Type 0) (g : ℕ → Node) (s i kind left : ℕ) → kind ≡ kindOf (g i) → left ≡ leftOf (g i) → 2 ≤ kind → ¬ (kind ≡ 4)
-    → ((a b : Expr) → Pair g s i left a b → D) → Begins g s i → D
+    → ((a b : Expr) → Pair g s i left a b → D) → Spans g s i → D
 at-pair D g s i kind left told f k no-repeat c part = go (part .0) (part .1) (part .2) (told ∙ standing-kind g i s (part .0) (part .1) (part .2))
   where
     go : (e : Expr) → Stands g s e → root s e ≡ i → kind ≡ kindNumber e → D
@@ -134,6 +134,10 @@ at-pair D g s i kind left told f k no-repeat c part = go (part .0) (part .1) (pa
     go (choice a b) p h m = c a b (pair g s i left a b 2 (root (s + size a) b) f (p .0) (p .1) (p .2) h)
     go (sequence a b) p h m = c a b (pair g s i left a b 3 (root (s + size a) b) f (p .0) (p .1) (p .2) h)
     go (repeat d lower upper) p h m = absurd (no-repeat m)
+
+-- the left child stands below its parent
+pub left-lower : (g : ℕ → Node) (i kind left : ℕ) → kind ≡ kindOf (g i) → left ≡ leftOf (g i) → 2 ≤ kind → ¬ (kind ≡ 4) → InOrder g i → left < i
+left-lower g i kind left told f k n o = at-pair (left < i) g (o .0) i kind left told f k n (λ a b p. omega (arith, p .next, p .here)) (o .1, o .2, o .3)
 
 -- a number below m, one below n, or neither
 by-place : {C : Type 0} (j m n : ℕ) → (j < m → C) → (m ≤ j → j < n → C) → (n ≤ j → C) → C

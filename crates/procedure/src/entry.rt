@@ -1,7 +1,8 @@
 // An entry is a node as one number: its record's 8 bytes read little-endian. Each function hands out one number of the node.
 ghost use mathlib.Core.Path.{_≡_};
-ghost use Rattle.meaning.specs.Normal.{low};
-ghost use Rattle.procedure.specs.Entry.{unpacked, kindOf, codeOf, leftOf, bodyOf, lowerOf, upperOf};
+ghost use Prim.Native.Nat.{_<_};
+ghost use Rattle.meaning.specs.Node.{node};
+ghost use Rattle.procedure.specs.Entry.{packed, unpacked, kindOf, codeOf, leftOf, bodyOf, lowerOf, upperOf};
 
 // An entry is kind + CODE × code + FIRST × the first field + SECOND × the second + THIRD × the third.
 pub const CODE: u64 = 256;
@@ -71,9 +72,10 @@ pub fn upper_of(entry: u64) -> u16
     (entry / THIRD) as u16
 }
 
-// The lower bound in normal form: none where the body has the empty word.
-pub fn normal_lower(empties: bool, lower: u16) -> u16
-    ensures { λ r. ⌜ r ≡ low empties lower ⌝ }
+// The entry of an event node with this code.
+pub fn event_of(code: u8) -> u64
+    ensures { λ r. ⌜ r ≡ packed (node 1 code 0 0 0) ⌝ }
+    ensures { λ r. ⌜ code < 256 ⌝ }
 {
-    if empties { 0 } else { lower }
+    EVENT as u64 + CODE * (code as u64)
 }

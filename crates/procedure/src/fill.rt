@@ -4,7 +4,6 @@ ghost use Prim.Native.Nat.{_+_, _≤_, _<_};
 ghost use lib.ListN.{length};
 ghost use Rattle.meaning.specs.File.{Measured, count, recordAt};
 ghost use Rattle.procedure.specs.Entry.{Tied, packed};
-use crate::bytes;
 use crate::entry;
 use crate::frame;
 
@@ -13,10 +12,12 @@ fn entry_at(file: &[u8], at: usize) -> u64
     requires { ⌜ at + 7 < length (now file) ⌝ }
     ensures { λ r. ⌜ r ≡ packed (recordAt (now (file .entry)) at) ⌝ }
 {
-    let low = bytes::wide(file[at])
-        + entry::CODE * bytes::wide(file[at + 1])
-        + entry::FIRST * bytes::two_at(file, at + 2);
-    low + entry::SECOND * bytes::two_at(file, at + 4) + entry::THIRD * bytes::two_at(file, at + 6)
+    let low = numbers::byte_at(file, at)
+        + entry::CODE * numbers::byte_at(file, at + 1)
+        + entry::FIRST * numbers::two_at(file, at + 2);
+    low
+        + entry::SECOND * numbers::two_at(file, at + 4)
+        + entry::THIRD * numbers::two_at(file, at + 6)
 }
 
 // The first n entries become those of the file's nodes.

@@ -4,7 +4,6 @@ ghost use Prim.Native.Nat.{_≤_, _<_};
 ghost use lib.ListN.{length};
 ghost use Rattle.meaning.specs.File.{Lettered, Measured, Sized, count};
 ghost use Rattle.procedure.specs.Tests.{Decides};
-use crate::bytes;
 
 const LEAST_BYTES: usize = 20;
 
@@ -49,10 +48,10 @@ pub fn lettered(file: &[u8]) -> bool
     requires { ⌜ 20 ≤ length (now file) ⌝ }
     ensures { λ r. ⌜ Decides (Lettered (now (file .entry))) r ⌝ }
 {
-    if bytes::four_at(file, file.len() - TRAILER) != LETTERS {
+    if numbers::four_at(file, file.len() - TRAILER) != LETTERS {
         return false;
     }
-    if bytes::two_at(file, file.len() - EDITION_FROM_END) != EDITION {
+    if numbers::two_at(file, file.len() - EDITION_FROM_END) != EDITION {
         return false;
     }
     true
@@ -64,7 +63,7 @@ pub fn count_of(file: &[u8]) -> usize
     ensures { λ r. ⌜ r ≡ count (now (file .entry)) ⌝ }
     ensures { λ r. ⌜ r < 65536 ⌝ }
 {
-    bytes::two_at(file, file.len() - COUNT_FROM_END) as usize
+    numbers::two_at(file, file.len() - COUNT_FROM_END) as usize
 }
 
 // Whether 3 does not apply.
@@ -80,7 +79,7 @@ pub fn measured(file: &[u8]) -> bool
         return false;
     }
     let span = TRAILER + RECORD * n;
-    if bytes::four_at(file, file.len() - DISTANCE_FROM_END) as usize != span {
+    if numbers::four_at(file, file.len() - DISTANCE_FROM_END) as usize != span {
         return false;
     }
     if file.len() < span {

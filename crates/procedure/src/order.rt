@@ -1,9 +1,11 @@
-// The test 5: the postfix order of the nodes.
+// The test 5: the postfix order of the nodes, and where the part of each begins.
 ghost use mathlib.Core.Path.{_≡_};
 ghost use Prim.Native.Nat.{ℕ, _≤_, _<_};
+ghost use lib.ListN.{length};
 ghost use Rattle.meaning.specs.Node.{InTable};
 ghost use Rattle.procedure.specs.Entry.{held, rightOf, unpacked};
-ghost use Rattle.procedure.specs.Parts.{OrderTested, Started, StartsAt};
+ghost use Rattle.procedure.specs.Order.{OrderTested, StartsAt};
+ghost use Rattle.procedure.specs.Listing.{TellsStarts};
 use crate::entry;
 
 // Where the part of a node begins.
@@ -21,24 +23,11 @@ fn right_of(entry: u64) -> usize
     (entry / entry::SECOND % entry::FIELD) as usize
 }
 
-fn wide(x: u16) -> usize
-    ensures { λ r. ⌜ r ≡ x ⌝ }
-{
-    x as usize
-}
-
-fn narrow(x: usize) -> u16
-    requires { ⌜ x < 65536 ⌝ }
-    ensures { λ r. ⌜ r ≡ x ⌝ }
-{
-    x as u16
-}
-
 // Where the part of node i begins, from the starts of the parts below.
-fn start_of(nodes: &[u64; 512], starts: &[u16; 512], i: usize) -> Start
-    requires { ⌜ i < 512 ⌝ }
+fn start_of(nodes: &[u64; 512], starts: &[u16], i: usize) -> Start
+    requires { ⌜ (i < 512) × (i ≤ length (now starts)) ⌝ }
     requires { ⌜ InTable (held (now nodes) i) ⌝ }
-    requires { ⌜ Started (held (now nodes)) (now starts) i ⌝ }
+    requires { ⌜ TellsStarts (held (now nodes)) (now starts) i ⌝ }
     ensures { λ r. ⌜ StartsAt (held (now (nodes .entry))) i r ⌝ }
 {
     let entry = nodes[i];
@@ -49,7 +38,7 @@ fn start_of(nodes: &[u64; 512], starts: &[u16; 512], i: usize) -> Start
     if i < 1 {
         return Start::Nowhere;
     }
-    let before = wide(starts[i - 1]);
+    let before = numbers::wide(starts[i - 1]);
     if kind == entry::REPEAT {
         if entry::body_of(entry) != i - 1 {
             return Start::Nowhere;
@@ -65,22 +54,23 @@ fn start_of(nodes: &[u64; 512], starts: &[u16; 512], i: usize) -> Start
     if entry::left_of(entry) != before - 1 {
         return Start::Nowhere;
     }
-    Start::At(wide(starts[before - 1]))
+    Start::At(numbers::wide(starts[before - 1]))
 }
 
-// The lowest of the first n nodes that is out of order; or the last, where its part does not begin at node 0; or n.
-pub fn lowest_out_of_order(nodes: &[u64; 512], n: usize) -> usize
-    requires { ⌜ (1 ≤ n) × (n ≤ 512) ⌝ }
+// The lowest of the first n nodes that is out of order; or the last, where its part does not begin at node 0; or n, and then the
+// table has where the part of each node begins.
+pub fn lowest_out_of_order(nodes: &[u64; 512], starts: &mut [u16], n: usize) -> usize
+    requires { ⌜ (1 ≤ n) × (n ≤ 512) × (n ≤ length (now starts)) ⌝ }
     requires { ⌜ ((j : ℕ) → j < n → InTable (held (now nodes) j)) ⌝ }
     ensures { λ r. ⌜ OrderTested (held (now (nodes .entry))) n r ⌝ }
+    ensures { λ r. ⌜ (n ≤ r → TellsStarts (held (now (nodes .entry))) (now (starts .exit)) n) ⌝ }
 {
-    let mut starts = [0u16; 512];
     let mut i = 0;
     while i < n {
-        let Start::At(start) = start_of(nodes, &starts, i) else {
+        let Start::At(start) = start_of(nodes, starts, i) else {
             return i;
         };
-        starts[i] = narrow(start);
+        starts[i] = numbers::narrow(start);
         i += 1;
     }
     if 0 < starts[n - 1] {

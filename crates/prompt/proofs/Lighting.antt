@@ -7,61 +7,60 @@ use Prim.Native.Nat.{ℕ, suc, _+_, _-_, _≤_, _<_}
 use native.Mathlib.Decide.{decLe}
 use native.Mathlib.Omega.{arith}
 use Rattle.meaning.specs.Codes.{Has}
-use Rattle.meaning.specs.Expr.{Expr, event, size, Part, Bounded}
-use Rattle.meaning.specs.Node.{InOrder, InTable, Stands}
+use Rattle.meaning.specs.Expr.{Expr, event, Part}
 use Rattle.meaning.specs.Promises.{Lights}
 use Rattle.meaning.specs.theory.Near.{Near}
 use Rattle.meaning.specs.theory.Places.{Place, nodeOf}
 use Rattle.meaning.proofs.places.Directly.{part-place}
 use Rattle.meaning.proofs.file.EventNodes.{part-stands}
-use Rattle.meaning.proofs.file.Files.{table-bounded}
 use Rattle.meaning.proofs.expressions.FirstWorded.{first-iff-worded}
 use Rattle.meaning.proofs.places.Loosened.{lights-iff-near}
 use Rattle.meaning.proofs.expressions.Parts.{root-size, part-within}
 use Rattle.procedure.specs.Entry.{held, kindOf, codeOf}
-use Rattle.judge.specs.Sets.{SetsAt, TableUpTo}
-use Rattle.judge.specs.declared.sets.Sets.{Sets}
+use Rattle.judge.specs.Sets.{SetsAt}
+use Rattle.judge.specs.declared.sets.PartSets.{PartSets}
 use Rattle.plan.specs.Plan.{Plans}
-use Rattle.prompt.specs.Near.{Kept, TellsNear, CodeNear, CodesNear, StartLit, LitAt}
+use Rattle.states.proofs.Readiness.{listing-bounded}
+use Rattle.prompt.specs.Near.{TellsNear, CodeNear, CodesNear, StartLit, LitAt}
 use Rattle.prompt.proofs.EventNodes.{record-event}
 
 -- ---- one node
 
-pub code-near : {nodes plan : List ℕ} {n p q : ℕ} {r : Bool} (set code : ℕ) → q < n → InTable (held nodes q) → kindOf (held nodes q) ≡ 1
-    → TellsNear nodes plan n p q r → r ≡ true → code ≡ codeOf (held nodes q) → ((c : ℕ) → Has set c ↔ (c ≡ code)) → CodeNear nodes plan n p q set
-code-near {nodes} {q = q} set code l kept k w yes-near told only = record {
+pub code-near : {nodes starts : List ℕ} {nulls : List Bool} {plan : List ℕ} {n p q : ℕ} {r : Bool} (set code : ℕ) → q < n → kindOf (held nodes q) ≡ 1
+    → TellsNear nodes starts nulls plan n p q r → r ≡ true → code ≡ codeOf (held nodes q) → ((c : ℕ) → Has set c ↔ (c ≡ code)) → CodeNear nodes starts nulls plan n p q set
+code-near {nodes} {q = q} set code l k w yes-near told only = record {
   holds =
       λ e t pl same c. (
         λ h. (
           w .tells e t pl same .0 yes-near,
           subst (λ (d : ℕ). Part 0 e q (event d)) (sym (only c .0 h ∙ told))
-              (record-event (held nodes) e (pl .stands) q (omega (arith, pl .sized)) kept k),
+              (record-event (held nodes) e (pl .listing .stands) q (omega (arith, pl .listing .sized)) (pl .listing .table q l) k),
         ),
-        λ f. only c .1 (sym (told ∙ ap codeOf (part-stands (held nodes) 0 e q c (pl .stands) (f .1)))),
+        λ f. only c .1 (sym (told ∙ ap codeOf (part-stands (held nodes) 0 e q c (pl .listing .stands) (f .1)))),
       );
 }
 
-pub code-not-near : {nodes plan : List ℕ} {n p q : ℕ} {r : Bool} (set : ℕ) → TellsNear nodes plan n p q r → r ≡ false → ((c : ℕ) → ¬ Has set c)
-    → CodeNear nodes plan n p q set
+pub code-not-near : {nodes starts : List ℕ} {nulls : List Bool} {plan : List ℕ} {n p q : ℕ} {r : Bool} (set : ℕ) → TellsNear nodes starts nulls plan n p q r → r ≡ false → ((c : ℕ) → ¬ Has set c)
+    → CodeNear nodes starts nulls plan n p q set
 code-not-near set w not-near none = record {
   holds = λ e t pl same c. (λ h. absurd (none c h), λ f. absurd (false≢true (sym not-near ∙ w .tells e t pl same .1 (f .0))));
 }
 
-pub code-of-none : (nodes plan : List ℕ) (n p q set : ℕ) → ¬ (kindOf (held nodes q) ≡ 1) → ((c : ℕ) → ¬ Has set c) → CodeNear nodes plan n p q set
-code-of-none nodes plan n p q set other none = record {
+pub code-of-none : (nodes starts : List ℕ) (nulls : List Bool) (plan : List ℕ) (n p q set : ℕ) → ¬ (kindOf (held nodes q) ≡ 1) → ((c : ℕ) → ¬ Has set c) → CodeNear nodes starts nulls plan n p q set
+code-of-none nodes starts nulls plan n p q set other none = record {
   holds =
       λ e t pl same c.
-      (λ h. absurd (none c h), λ f. absurd (other (ap kindOf (part-stands (held nodes) 0 e q c (pl .stands) (f .1)))));
+      (λ h. absurd (none c h), λ f. absurd (other (ap kindOf (part-stands (held nodes) 0 e q c (pl .listing .stands) (f .1)))));
 }
 
 -- ---- the nodes passed
 
-pub codes-none : {nodes plan : List ℕ} {n p set : ℕ} → ((c : ℕ) → ¬ Has set c) → CodesNear nodes plan n p 0 set
+pub codes-none : {nodes starts : List ℕ} {nulls : List Bool} {plan : List ℕ} {n p set : ℕ} → ((c : ℕ) → ¬ Has set c) → CodesNear nodes starts nulls plan n p 0 set
 codes-none none = record { holds = λ e t pl same c. (λ h. absurd (none c h), λ f. absurd (omega (arith, f .1))) }
 
-pub codes-more : {nodes plan : List ℕ} {n p i set own : ℕ} (all : ℕ) → CodesNear nodes plan n p i set → CodeNear nodes plan n p i own
-    → ((c : ℕ) → Has all c ↔ (Has set c ⊎ Has own c)) → CodesNear nodes plan n p (i + 1) all
-codes-more {nodes} {plan} {n} {p} {i} {set} {own} all below here either = record {
+pub codes-more : {nodes starts : List ℕ} {nulls : List Bool} {plan : List ℕ} {n p i set own : ℕ} (all : ℕ) → CodesNear nodes starts nulls plan n p i set → CodeNear nodes starts nulls plan n p i own
+    → ((c : ℕ) → Has all c ↔ (Has set c ⊎ Has own c)) → CodesNear nodes starts nulls plan n p (i + 1) all
+codes-more {nodes} {starts} {nulls} {plan} {n} {p} {i} {set} {own} all below here either = record {
   holds =
       λ e t pl same c. (
         λ h. ⊎-elim
@@ -72,7 +71,7 @@ codes-more {nodes} {plan} {n} {p} {i} {set} {own} all below here either = record
       );
 }
   where
-    side : (e : Expr) (t : Place e) → Plans nodes plan n e → nodeOf 0 e t ≡ p → (c : ℕ)
+    side : (e : Expr) (t : Place e) → Plans nodes starts nulls plan n e → nodeOf 0 e t ≡ p → (c : ℕ)
         → (f : (q : ℕ) × (q < i + 1) × Near 0 e t q × Part 0 e q (event c)) → Dec (i ≤ f .0) → Has set c ⊎ Has own c
     side e t pl same c f (yes l) =
         let last : f .0 ≡ i = omega (arith, f .1) in
@@ -81,18 +80,14 @@ codes-more {nodes} {plan} {n} {p} {i} {set} {own} all below here either = record
 
 -- ---- the codes lit
 
--- the table's bounds are the expression's
-kept-bounded : (nodes : List ℕ) (n : ℕ) (e : Expr) → Kept nodes n → Stands (held nodes) 0 e → size e ≡ n → Bounded e
-kept-bounded nodes n e kept st sized = table-bounded (held nodes) n 0 e kept (omega (arith, root-size 0 e)) st
-
-pub lit-after : {nodes plan : List ℕ} {n p : ℕ} (set : ℕ) → p < n → kindOf (held nodes p) ≡ 1 → Kept nodes n → CodesNear nodes plan n p n set
-    → LitAt nodes plan n (suc p) set
-lit-after {nodes} {plan} {n} {p} set l k kept near = record { holds = λ e pl c. both e pl c }
+pub lit-after : {nodes starts : List ℕ} {nulls : List Bool} {plan : List ℕ} {n p : ℕ} (set : ℕ) → p < n → kindOf (held nodes p) ≡ 1 → CodesNear nodes starts nulls plan n p n set
+    → LitAt nodes starts nulls plan n (suc p) set
+lit-after {nodes} {starts} {nulls} {plan} {n} {p} set l k near = record { holds = λ e pl c. both e pl c }
   where
-    both : (e : Expr) → Plans nodes plan n e → (c : ℕ) → Has set c ↔ Lights e (suc p) c
+    both : (e : Expr) → Plans nodes starts nulls plan n e → (c : ℕ) → Has set c ↔ Lights e (suc p) c
     both e pl c =
-        let h = kept-bounded nodes n e kept (pl .stands) (pl .sized) in
-        let w = record-event (held nodes) e (pl .stands) p (omega (arith, pl .sized)) (kept p l) k in
+        let h = listing-bounded (pl .listing) in
+        let w = record-event (held nodes) e (pl .listing .stands) p (omega (arith, pl .listing .sized)) (pl .listing .table p l) k in
         let t = part-place 0 e h p (codeOf (held nodes p)) w in
         let lit = lights-iff-near e h (t .0) c in
         let there = near .holds e (t .0) pl (t .2) c in (
@@ -100,32 +95,22 @@ lit-after {nodes} {plan} {n} {p} set l k kept near = record { holds = λ e pl c.
           λ w.
               let f = lit .0 (subst (λ (i : ℕ). Lights e (suc i) c) (sym (t .2)) w) in
               let within = part-within 0 e (f .0) (event c) (f .2) in
-              there .1 (f .0, omega (arith, within .1, pl .sized), f .1, f .2),
+              there .1 (f .0, omega (arith, within .1, pl .listing .sized), f .1, f .2),
         )
 
-pub lit-at-start : (plan : List ℕ) {nodes : List ℕ} {n set : ℕ} → StartLit nodes n set → LitAt nodes plan n 0 set
-lit-at-start plan start = record { holds = λ e pl. start .holds e (pl .stands) (pl .sized) }
+pub lit-at-start : {nodes starts : List ℕ} {nulls : List Bool} {plan : List ℕ} {n set : ℕ} → StartLit nodes n set → LitAt nodes starts nulls plan n 0 set
+lit-at-start start = record { holds = λ e pl. start .holds e (pl .listing) }
 
-pub lit-as : {nodes plan : List ℕ} {n i node set : ℕ} → node ≡ i → LitAt nodes plan n i set → LitAt nodes plan n node set
-lit-as {nodes} {plan} {n} {i} {node} {set} same w = subst (λ (j : ℕ). LitAt nodes plan n j set) (sym same) w
+pub lit-as : {nodes starts : List ℕ} {nulls : List Bool} {plan : List ℕ} {n i node set : ℕ} → node ≡ i → LitAt nodes starts nulls plan n i set → LitAt nodes starts nulls plan n node set
+lit-as {nodes} {starts} {nulls} {plan} {n} {i} {node} {set} same w = subst (λ (j : ℕ). LitAt nodes starts nulls plan n j set) (sym same) w
 
 -- ---- first of the root
 
--- what working out the root asks
-pub root-ready : (nodes : List ℕ) (n : ℕ) → Kept nodes n → ((e : Expr) × Stands (held nodes) 0 e × (size e ≡ n))
-    → (1 ≤ n) × (InOrder (held nodes) (n - 1) × TableUpTo (held nodes) (n - 1))
-unfolding TableUpTo
-root-ready nodes n kept w =
-    let e = w .0 in
-    let some : 1 ≤ n = omega (arith, root-size 0 e, w .2) in
-    (some, ((0, e, w .1, omega (arith, root-size 0 e, w .2)), λ j l. kept j (omega arith)))
-
--- and what it gives
-pub first-lit : (nodes : List ℕ) (n : ℕ) (x : Sets) → Kept nodes n → SetsAt (held nodes) (n - 1) x → StartLit nodes n (x .first)
+pub first-lit : (nodes : List ℕ) (n : ℕ) (x : PartSets) → SetsAt (held nodes) (n - 1) x → StartLit nodes n (x .first)
 unfolding SetsAt
-first-lit nodes n x kept sets = record {
+first-lit nodes n x sets = record {
   holds =
-      λ e st sized c.
+      λ e l c.
       let last = root-size 0 e in
-      Iff·trans (sets 0 e st (omega arith) .firsts c) (first-iff-worded e (kept-bounded nodes n e kept st sized) c);
+      Iff·trans (sets 0 e (l .stands) (omega (arith, l .sized)) .firsts c) (first-iff-worded e (listing-bounded l) c);
 }

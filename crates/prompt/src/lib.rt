@@ -11,8 +11,11 @@ pub fn prompt(file: &[u8], state: &[u8]) -> PromptAnswer
     ensures { λ r. ⌜ Prompts (now (file .entry)) (now (state .entry)) r ⌝ }
 {
     let mut nodes = [0u64; 512];
-    match judge::admit(file, &mut nodes) {
+    let mut starts = [0u16; 512];
+    let mut nulls = [false; 512];
+    let mut repeats = [0u16; 32];
+    match judge::admit(file, &mut nodes, &mut starts, &mut nulls, &mut repeats) {
         Admission::Refused(r) => PromptAnswer::Refused(r),
-        Admission::Nodes(n) => light::light(&nodes, n, state),
+        Admission::Nodes(n, r) => light::light(&nodes, &starts, &nulls, &repeats, n, r, state),
     }
 }

@@ -5,7 +5,7 @@ use Prim.Native.Nat.{ℕ, zero, suc, _+_, _*_, _/_, _%_, _≤_, _<_}
 use native.Mathlib.Omega.{arith}
 use lib.ListN.{length, drop, getD, List·getD-eq-default}
 use native.Mathlib.Numerals.{add-one}
-use Rattle.meaning.specs.Bytes.{inTwos}
+use Rattle.meaning.specs.Bytes.{inTwos, twoAt}
 use Rattle.meaning.specs.theory.Counts.{Narrow}
 use Rattle.record.specs.Walk.{itemsIn, noItem, Inside, Outside}
 
@@ -15,7 +15,7 @@ items-length (x ∷ []) = refl
 items-length (x ∷ y ∷ b) = omega (arith, items-length b)
 
 -- item k stands in the bytes 2 k and 2 k + 1
-pub item-in : (b : List ℕ) (k : ℕ) → 2 * k + 1 < length b → getD (itemsIn b) k noItem ≡ getD b (2 * k) 0 + 256 * getD b (2 * k + 1) 0
+pub item-in : (b : List ℕ) (k : ℕ) → 2 * k + 1 < length b → getD (itemsIn b) k noItem ≡ twoAt b (2 * k)
 item-in [] k h = absurd (omega arith)
 item-in (x ∷ []) k h = absurd (omega arith)
 item-in (x ∷ y ∷ b) zero h = refl

@@ -2,10 +2,8 @@
 -- of this crate.
 pub mod Answers
 pub mod Blocks
-pub mod Bounds
 mod Bytes
-pub mod Empties
+mod Eats
 pub mod Puts
 mod Stays
-mod Takes
-pub mod Walks
+mod Walks

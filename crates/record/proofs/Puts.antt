@@ -6,25 +6,18 @@ use mathlib.Core.List.{List, [], _∷_, _++_, append-assoc}
 use Prim.Native.Nat.{ℕ, zero, suc, _+_, _*_, _/_, _%_, _≤_, _<_}
 use native.Mathlib.Omega.{arith}
 use borrow.Author.Tests.{lt-ltb, le-ltb}
-use lib.ListN.{length, drop, set, length-append, length-set}
+use lib.ListN.{length, drop, set, length-append}
 use Rattle.meaning.specs.Bytes.{inTwos}
+use Rattle.numbers.specs.Put.{putTwo}
 use Rattle.record.specs.Put.{putAt, puts}
 
--- the two bytes of an item in the space
-abbrev twoAt : List ℕ → ℕ → ℕ → List ℕ
-twoAt space at n = set (set space (2 * at) (n % 256)) (2 * at + 1) (n / 256 % 256)
-
--- after the first of them is written there is room for the second
-pub fits-still : (space : List ℕ) (at x : ℕ) → 2 * at + 1 < length space → 2 * at + 1 < length (set space (2 * at) x)
-fits-still space at x h = omega (arith, length-set space (2 * at) x)
-
-pub put-fits : (space : List ℕ) (at n : ℕ) → 2 * at + 1 < length space → twoAt space at n ≡ putAt space at n
+pub put-fits : (space : List ℕ) (at n : ℕ) → 2 * at + 1 < length space → putTwo space (2 * at) n ≡ putAt space at n
 unfolding putAt
-put-fits space at n h = sym (ap (λ (b : Bool). cond b (twoAt space at n) space) (lt-ltb (2 * at + 1) (length space) h))
+put-fits space at n h = sym (ap (λ (b : Bool). cond b (putTwo space (2 * at) n) space) (lt-ltb (2 * at + 1) (length space) h))
 
 pub put-past : (space : List ℕ) (at n : ℕ) → length space ≤ 2 * at + 1 → space ≡ putAt space at n
 unfolding putAt
-put-past space at n h = sym (ap (λ (b : Bool). cond b (twoAt space at n) space) (le-ltb (2 * at + 1) (length space) h))
+put-past space at n h = sym (ap (λ (b : Bool). cond b (putTwo space (2 * at) n) space) (le-ltb (2 * at + 1) (length space) h))
 
 set-behind : (u : List ℕ) (a x : ℕ) (v : List ℕ) (k : ℕ) → length u ≡ k → set (u ++ (a ∷ v)) k x ≡ u ++ (x ∷ v)
 set-behind [] a x v zero h = refl
@@ -45,7 +38,7 @@ put-behind u a b v at n h =
     ∙ ap (λ (s : List ℕ). set s (2 * at + 1) y) (one ∙ again) ∙ two
     ∙ append-assoc u (x ∷ []) (y ∷ v) ∙ sym (append-assoc u (x ∷ y ∷ []) v)
 
-pub puts-behind : (u v : List ℕ) (at : ℕ) (w : List ℕ) → length u ≡ 2 * at → 2 * length w ≤ length v
+puts-behind : (u v : List ℕ) (at : ℕ) (w : List ℕ) → length u ≡ 2 * at → 2 * length w ≤ length v
     → puts (u ++ v) at w ≡ u ++ (inTwos w ++ drop (2 * length w) v)
 puts-behind u v at [] h l = refl
 puts-behind u [] at (n ∷ w) h l = absurd (omega arith)

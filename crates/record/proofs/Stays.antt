@@ -1,8 +1,8 @@
 -- What the repeat at a node takes, block after block: the laws of a stay at the nodes of a file. Assumes nothing.
 use mathlib.Core.Path.{_≡_, sym, ap, subst, _∙_}
-use mathlib.Core.Bool.{Bool, false}
+use mathlib.Core.Bool.{Bool}
 use mathlib.Core.List.{List, _∷_, _++_, map}
-use Prim.Native.Nat.{ℕ, suc, _+_, _-_, _%_, _≤_, _<_}
+use Prim.Native.Nat.{ℕ, _+_, _-_, _%_, _≤_, _<_}
 use native.Mathlib.Numerals.{add-one}
 use native.Mathlib.Omega.{arith}
 use lib.ListN.{length, drop, getD, length-drop}
@@ -13,9 +13,10 @@ use Rattle.meaning.specs.Normal.{nullable, low}
 use Rattle.meaning.specs.Reading.{Item, Reading, Block, codes}
 use Rattle.meaning.specs.Record.{itemNumber}
 use Rattle.procedure.specs.Entry.{kindOf, lowerOf, upperOf}
+use Rattle.procedure.specs.Listing.{NullAt}
 use Rattle.record.specs.declared.walk.Taken.{Taken}
 use Rattle.record.specs.declared.walk.Taken.the-variants.{To, Stuck}
-use Rattle.record.specs.Walk.{noItem, from, Takes, restOf, TakesAt, Ends, NullAt, Nulls}
+use Rattle.record.specs.Walk.{noItem, from, Eats, remainderOf, EatsAt, Ends}
 use Rattle.record.proofs.Blocks.{Stay, stay-none, stay-more, stay-broken, stay-ended, stay-off, no-body, no-closing, no-event}
 use Rattle.record.proofs.Bytes.{item-there, begins-with}
 use Rattle.meaning.proofs.expressions.ReadingHeads.{reading-long}
@@ -50,9 +51,9 @@ module _ (g : ℕ → Node) (w : List ℕ) (s i place k at : ℕ) (first : s ≤
     unfolding StayAt
     stay-open b p h = subst (Stay (Reading s b) s i (drop place w) k) (opening-there .1) (stay b p h)
 
-    pub stay-goes : (next m : ℕ) → next ≤ length w → TakesAt g w s (i - 1) (at + 1) (To next) → ¬ (next ≡ at + 1)
+    pub stay-goes : (next m : ℕ) → next ≤ length w → EatsAt g w s (i - 1) (at + 1) (To next) → ¬ (next ≡ at + 1)
         → m ≡ getD w next noItem → m ≡ i + 8192 → StayAt g w s i place (k + 1) (next + 1)
-    unfolding StayAt TakesAt
+    unfolding StayAt EatsAt
     stay-goes next m l a other f closes = λ b p h.
         let there = item-is w next m (i + 8192) f closes (omega arith) in
         let here = opening-there in
@@ -62,7 +63,7 @@ module _ (g : ℕ → Node) (w : List ℕ) (s i place k at : ℕ) (first : s ≤
         subst (λ (j : ℕ). Stay (Reading s b) s i (drop place w) j (drop (next + 1) w)) (sym (add-one k))
         (stay-more (Reading s b) s (i - 1) i (omega arith) first (omega arith) (drop place w) k (drop (at + 1) w) (drop (next + 1) w)
         (stay-open b p h) (reading-long s b) moved
-        (subst (λ (v : List ℕ). Takes (Reading s b) s (i - 1) (drop (at + 1) w) (from v)) (there .1) goes))
+        (subst (λ (v : List ℕ). Eats (Reading s b) s (i - 1) (drop (at + 1) w) (from v)) (there .1) goes))
 
   -- the repeat itself
   module _ (kind : ℕ) (told : kind ≡ kindOf (g i)) (is-repeat : kind ≡ 4) where
@@ -70,53 +71,51 @@ module _ (g : ℕ → Node) (w : List ℕ) (s i place k at : ℕ) (first : s ≤
     abbrev RepeatOf : Expr → List Item → Type 0
     RepeatOf b = Times (Block (Reading s b) i) (low (nullable b) (lowerOf (g i))) (bound (upperOf (g i)))
 
-    repeat-takes : (r : Taken) → ((b : Expr) → Stands g s b → root s b ≡ i - 1 → Takes (RepeatOf b) s i (drop place w) (restOf w r))
-        → TakesAt g w s i place r
-    unfolding TakesAt
-    repeat-takes r a =
-        at-repeat g s i kind told (λ x. Takes (Reading s x) s i (drop place w) (restOf w r)) is-repeat
+    repeat-eats : (r : Taken) → ((b : Expr) → Stands g s b → root s b ≡ i - 1 → Eats (RepeatOf b) s i (drop place w) (remainderOf w r))
+        → EatsAt g w s i place r
+    unfolding EatsAt
+    repeat-eats r a =
+        at-repeat g s i kind told (λ x. Eats (Reading s x) s i (drop place w) (remainderOf w r)) is-repeat
         (λ b p h q.
-        subst (λ (j : ℕ). Takes (Times (Block (Reading s b) j) (low (nullable b) (lowerOf (g i))) (bound (upperOf (g i)))) s i (drop place w) (restOf w r))
+        subst (λ (j : ℕ). Eats (Times (Block (Reading s b) j) (low (nullable b) (lowerOf (g i))) (bound (upperOf (g i)))) s i (drop place w) (remainderOf w r))
         (sym q) (a b p h))
 
     module _ (n : ℕ) (e : n ≡ getD w at noItem) (opens : n ≡ i + 4096) where
       broken : ((b : Expr) → Stands g s b → root s b ≡ i - 1 → (x : List Item) (t : List ℕ) → Reading s b x → 1 ≤ length (codes x)
           → drop (at + 1) w ≡ map itemNumber x ++ ((i + 8192) ∷ t) → ⊥)
-          → TakesAt g w s i place Stuck
-      broken bad = repeat-takes Stuck
+          → EatsAt g w s i place Stuck
+      broken bad = repeat-eats Stuck
           (λ b p h. stay-broken (Reading s b) s (i - 1) i (omega arith) first (omega arith) (drop place w) k
           (low (nullable b) (lowerOf (g i))) (bound (upperOf (g i))) (drop (at + 1) w) (stay-open n e opens b p h) (bad b p h))
 
-      pub stuck-body : TakesAt g w s (i - 1) (at + 1) Stuck → TakesAt g w s i place Stuck
-      unfolding TakesAt
+      pub stuck-body : EatsAt g w s (i - 1) (at + 1) Stuck → EatsAt g w s i place Stuck
+      unfolding EatsAt
       stuck-body a = broken (λ b p h. no-body (Reading s b) s (i - 1) i (omega arith) (omega arith) (drop (at + 1) w) (a b p h))
 
-      pub stuck-event : (next : ℕ) → next ≡ at + 1 → TakesAt g w s (i - 1) (at + 1) (To next) → TakesAt g w s i place Stuck
-      unfolding TakesAt
+      pub stuck-event : (next : ℕ) → next ≡ at + 1 → EatsAt g w s (i - 1) (at + 1) (To next) → EatsAt g w s i place Stuck
+      unfolding EatsAt
       stuck-event next same a = broken
           (λ b p h. no-event (Reading s b) s (i - 1) i (omega arith) (omega arith) (drop (at + 1) w)
-          (subst (λ (j : ℕ). Takes (Reading s b) s (i - 1) (drop (at + 1) w) (from (drop j w))) same (a b p h)))
+          (subst (λ (j : ℕ). Eats (Reading s b) s (i - 1) (drop (at + 1) w) (from (drop j w))) same (a b p h)))
 
-      pub stuck-closing : (next m : ℕ) → TakesAt g w s (i - 1) (at + 1) (To next) → m ≡ getD w next noItem → ¬ (m ≡ i + 8192) → TakesAt g w s i place Stuck
-      unfolding TakesAt
+      pub stuck-closing : (next m : ℕ) → EatsAt g w s (i - 1) (at + 1) (To next) → m ≡ getD w next noItem → ¬ (m ≡ i + 8192) → EatsAt g w s i place Stuck
+      unfolding EatsAt
       stuck-closing next m a f other = broken
           (λ b p h. no-closing (Reading s b) s (i - 1) i (omega arith) (omega arith) (drop (at + 1) w) (drop next w) (a b p h)
           (λ t q. other (begins-with w next m (i + 8192) t f q)))
 
     -- no opening follows
-    pub stay-stops : (nulls : List Bool) (n : ℕ) (r : Taken) → Nulls g nulls (suc (i - 1)) → n ≡ getD w at noItem → ¬ (n ≡ i + 4096)
-        → Ends ((low (getD nulls (i - 1) false) (lowerOf (g i)) ≤ k) × Within k (bound (upperOf (g i)))) at r → TakesAt g w s i place r
-    unfolding StayAt Nulls NullAt
-    stay-stops nulls n (To t) known e other ends = repeat-takes (To t)
+    pub stay-stops : (null : Bool) (n : ℕ) (r : Taken) → NullAt g (i - 1) null → n ≡ getD w at noItem → ¬ (n ≡ i + 4096)
+        → Ends ((low null (lowerOf (g i)) ≤ k) × Within k (bound (upperOf (g i)))) at r → EatsAt g w s i place r
+    unfolding StayAt NullAt
+    stay-stops null n (To t) known e other ends = repeat-eats (To t)
         (λ b p h.
-        let null = known (i - 1) (omega arith) s b p h in
-        subst (λ (j : ℕ). Takes (RepeatOf b) s i (drop place w) (from (drop j w))) (sym (ends .1))
+        subst (λ (j : ℕ). Eats (RepeatOf b) s i (drop place w) (from (drop j w))) (sym (ends .1))
         (stay-ended (Reading s b) s (i - 1) i (omega arith) first (omega arith) (drop place w) k
         (low (nullable b) (lowerOf (g i))) (bound (upperOf (g i))) (drop at w) (stay b p h) (λ u q. other (begins-with w at n (i + 4096) u e q))
-        (subst (λ (x : Bool). low x (lowerOf (g i)) ≤ k) null (ends .0 .0)) (ends .0 .1)))
-    stay-stops nulls n Stuck known e other ends = repeat-takes Stuck
+        (subst (λ (x : Bool). low x (lowerOf (g i)) ≤ k) (known s b p h) (ends .0 .0)) (ends .0 .1)))
+    stay-stops null n Stuck known e other ends = repeat-eats Stuck
         (λ b p h.
-        let null = known (i - 1) (omega arith) s b p h in
         stay-off (Reading s b) s (i - 1) i (omega arith) first (omega arith) (drop place w) k
         (low (nullable b) (lowerOf (g i))) (bound (upperOf (g i))) (drop at w) (stay b p h) (λ u q. other (begins-with w at n (i + 4096) u e q))
-        (λ q. ends (subst (λ (x : Bool). low x (lowerOf (g i)) ≤ k) (sym null) (q .0), q .1)))
+        (λ q. ends (subst (λ (x : Bool). low x (lowerOf (g i)) ≤ k) (sym (known s b p h)) (q .0), q .1)))

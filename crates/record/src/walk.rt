@@ -1,15 +1,13 @@
 // What a part takes of the items of a record. Items name nodes, so the walk never guesses.
 ghost use mathlib.Core.Bool.{So};
 ghost use mathlib.Core.Path.{_≡_};
-ghost use Prim.Native.Nat.{_≤_, _<_};
+ghost use Prim.Native.Nat.{_+_, _≤_};
 ghost use lib.ListN.{length};
-ghost use Rattle.meaning.specs.Expr.{Within};
-ghost use Rattle.meaning.specs.Node.{bound};
-ghost use Rattle.meaning.specs.Normal.{low};
-ghost use Rattle.procedure.specs.Entry.{held, kindOf, lowerOf, unpacked, upperOf};
-ghost use Rattle.procedure.specs.Tests.{Decides};
-ghost use Rattle.record.specs.Walk.{Ends, Onward, Ready, TakesAt, itemsIn};
+ghost use Rattle.procedure.specs.Entry.{held, kindOf};
+ghost use Rattle.procedure.specs.Listing.{OneOf, Spans, TellsNulls};
+ghost use Rattle.record.specs.Walk.{EatsAt, Ends, Onward, itemsIn};
 use crate::items;
+use procedure::bounds;
 use procedure::entry;
 
 // What a walk over a part takes of the items.
@@ -30,33 +28,6 @@ fn to_if(may: bool, at: usize) -> Taken
     Taken::Stuck
 }
 
-fn wide(x: u16) -> usize
-    ensures { λ r. ⌜ r ≡ x ⌝ }
-{
-    x as usize
-}
-
-// Whether a repeat may have so many blocks, for its upper bound.
-pub fn within(entry: u64, k: usize) -> bool
-    ensures { λ r. ⌜ Decides (Within k (bound (upperOf (unpacked entry)))) r ⌝ }
-{
-    let upper = entry::upper_of(entry);
-    if upper == entry::NO_BOUND {
-        return true;
-    }
-    k <= wide(upper)
-}
-
-// Whether a repeat may have k blocks. `null` says whether its body has the empty word.
-pub fn may_stop(entry: u64, null: bool, k: usize) -> bool
-    ensures { λ r. ⌜ Decides ((low null (lowerOf (unpacked entry)) ≤ k) × Within k (bound (upperOf (unpacked entry)))) r ⌝ }
-{
-    if k < wide(entry::normal_lower(null, entry::lower_of(entry))) {
-        return false;
-    }
-    within(entry, k)
-}
-
 // What the part of the nodes `start` to `node` takes from `place` on. The loop narrows the part; only the left of a sequence and the
 // body of a repeat are walks of their own.
 pub fn take(
@@ -67,10 +38,12 @@ pub fn take(
     node: usize,
     place: usize,
 ) -> Taken
-    requires { ⌜ Ready (held (now nodes)) (now nulls) start node ⌝ }
+    requires { ⌜ OneOf (now nodes) node ⌝ }
+    requires { ⌜ Spans (held (now nodes)) start node ⌝ }
+    requires { ⌜ TellsNulls (held (now nodes)) (now nulls) (node + 1) ⌝ }
     requires { ⌜ place ≤ length (itemsIn (now bytes)) ⌝ }
     ensures { λ r. ⌜ Onward (itemsIn (now (bytes .entry))) place r ⌝ }
-    ensures { λ r. ⌜ TakesAt (held (now (nodes .entry))) (itemsIn (now (bytes .entry))) start node place r ⌝ }
+    ensures { λ r. ⌜ EatsAt (held (now (nodes .entry))) (itemsIn (now (bytes .entry))) start node place r ⌝ }
 {
     let mut s = start;
     let mut i = node;
@@ -116,17 +89,19 @@ fn take_blocks(
     i: usize,
     place: usize,
 ) -> Taken
-    requires { ⌜ Ready (held (now nodes)) (now nulls) s i ⌝ }
+    requires { ⌜ OneOf (now nodes) i ⌝ }
+    requires { ⌜ Spans (held (now nodes)) s i ⌝ }
+    requires { ⌜ TellsNulls (held (now nodes)) (now nulls) (i + 1) ⌝ }
     requires { ⌜ place ≤ length (itemsIn (now bytes)) ⌝ }
     requires { ⌜ kindOf (held (now nodes) i) ≡ 4 ⌝ }
     ensures { λ r. ⌜ Onward (itemsIn (now (bytes .entry))) place r ⌝ }
-    ensures { λ r. ⌜ TakesAt (held (now (nodes .entry))) (itemsIn (now (bytes .entry))) s i place r ⌝ }
+    ensures { λ r. ⌜ EatsAt (held (now (nodes .entry))) (itemsIn (now (bytes .entry))) s i place r ⌝ }
 {
     let mut at = place;
     let mut k: usize = 0;
     loop {
         if items::read_item(bytes, at) != i + items::OPENING {
-            return to_if(may_stop(nodes[i], nulls[i - 1], k), at);
+            return to_if(bounds::may_have(nodes[i], nulls[i - 1], k), at);
         }
         let Taken::To(next) = take(nodes, nulls, bytes, s, i - 1, at + 1) else {
             return Taken::Stuck;

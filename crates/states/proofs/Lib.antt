@@ -1,6 +1,7 @@
--- The laws that belong to no one function: `Readiness` and `Reached` for whoever is lent a state, the others for the proofs of this crate.
+-- The laws that belong to no one function: `Readiness` and `ReachedBytes` for whoever is lent a state, the others for the proofs of this crate.
+mod Listed
 pub mod Readiness
-pub mod Reached
+pub mod ReachedBytes
 mod RightCounts
 mod Standing
-pub mod StateBytes
+mod StateBytes

@@ -11,6 +11,7 @@ use lib.Seq.{getD-set-same, getD-set-other}
 use Rattle.meaning.specs.Bytes.{byteAt, twoAt, inTwos}
 use Rattle.meaning.specs.theory.Counts.{Narrow}
 use Rattle.meaning.proofs.general.Twos.{narrow-each, narrow-unique}
+use Rattle.numbers.specs.Put.{putTwo}
 use Rattle.states.specs.StateBytes.{Decoded}
 
 -- a number is below another, or it is not
@@ -36,10 +37,6 @@ two-of f i x small e =
     let a = small i in
     let b = small (i + 1) in
     (omega arith, omega arith)
-
--- the bytes with the number put at i
-abbrev pub putTwo : List ℕ → ℕ → ℕ → List ℕ
-putTwo f i x = set (set f i (x % 256)) (i + 1) (x / 256 % 256)
 
 put-there : (f : List ℕ) (i x : ℕ) → i + 1 < length f → Two (putTwo f i x) i x
 put-there f i x h =

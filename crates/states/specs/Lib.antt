@@ -1,4 +1,3 @@
 -- What the contracts of a state cite.
-pub mod Ready
+pub mod Standing
 pub mod StateBytes
-pub mod Valid

@@ -1,52 +1,57 @@
 -- What each test on the way up comes to. Assumes nothing.
 use mathlib.Core.Path.{_≡_, refl, ap, subst, _∙_}
 use mathlib.Core.Logic.{_⊎_, inl, inr, ⊎-elim}
-use mathlib.Core.Bool.{cond}
+use mathlib.Core.Bool.{Bool, true, false}
 use mathlib.Core.List.{List, [], _∷_}
-use Prim.Native.Nat.{ℕ, zero, suc, _+_, _-_, _≤_, _<_, min, max}
+use Prim.Native.Nat.{ℕ, zero, suc, _+_, _-_, _≤_, _<_, max}
 use native.Mathlib.Decide.{decLe}
 use native.Mathlib.Omega.{arith}
-use borrow.Author.Tests.{eq-eqb, ne-eqb, lt-ltb, le-ltb}
-use lib.Dec.{eqb}
+use borrow.Author.Tests.{eq-eqb, ne-eqb}
+use lib.Dec.{eqb, leb}
 use lib.ListN.{getD, set, length-set}
 use lib.Seq.{getD-set-other}
-use Rattle.procedure.specs.Entry.{held, kindOf, lowerOf, upperOf}
-use Rattle.plan.specs.Plan.{aboveAt, startAt, rankAt, emptyAt}
+use Rattle.meaning.specs.Expr.{Upper, upto, endless, Within}
+use Rattle.meaning.proofs.general.Facts.{so-leb, not-leb}
+use Rattle.procedure.specs.Entry.{held, kindOf}
+use Rattle.procedure.specs.Tests.{Decides}
+use Rattle.procedure.proofs.Limits.{enough-test}
+use Rattle.plan.specs.Plan.{aboveAt, rankAt, startAt}
 use Rattle.plan.proofs.Tests.{taken-as}
-use Rattle.steps.specs.Counts.{marked, Sets, next, Cleared, oneMore, raised, Turned}
+use Rattle.steps.specs.Climb.{allowed}
+use Rattle.steps.specs.Counts.{marked, MarksUp, next, Cleared, oneMore, raised, Turned}
 
 -- ---- the counters
 
-pub cap-empty : (empties lower : ℕ) → empties ≡ 1 → 1 ≡ max 1 (cond (eqb empties 1) 0 lower)
-cap-empty empties lower h = rw (eq-eqb empties 1 h)
+-- a test that decides a fact is the test of it
+decided-same : (P : Type 0) (a b : Bool) → Decides P a → Decides P b → a ≡ b
+decided-same P true true d e = refl
+decided-same P true false d e = absurd (e d)
+decided-same P false true d e = absurd (d e)
+decided-same P false false d e = refl
 
-pub cap-zero : (empties lower : ℕ) → (empties ≡ 1 → ⊥) → lower ≡ 0 → 1 ≡ max 1 (cond (eqb empties 1) 0 lower)
-cap-zero empties lower h e = rw (ne-eqb empties 1 h) (omega arith)
+allowed-decides : (j : ℕ) (upper : Upper) → Decides (Within j upper) (allowed j upper)
+allowed-decides j endless = tt
+allowed-decides j (upto n) = go (leb j n) refl
+  where
+    go : (b : Bool) → leb j n ≡ b → Decides (j ≤ n) b
+    go true e = so-leb j n .0 e
+    go false e = let l = not-leb j n .0 e in λ h. omega arith
 
-pub cap-lower : (empties lower : ℕ) → (empties ≡ 1 → ⊥) → (lower ≡ 0 → ⊥) → lower ≡ max 1 (cond (eqb empties 1) 0 lower)
-cap-lower empties lower h e = rw (ne-eqb empties 1 h) (omega arith)
+pub allowed-told : (j : ℕ) (upper : Upper) (r : Bool) → Decides (Within j upper) r → r ≡ allowed j upper
+allowed-told j upper r d = decided-same (Within j upper) r (allowed j upper) d (allowed-decides j upper)
 
-pub one-more-endless : (empties lower upper c l m r : ℕ) → upper ≡ 65535 → l ≡ lower → m ≡ max 1 (cond (eqb empties 1) 0 l) → r ≡ min (c + 1) m
-    → r ≡ oneMore empties lower upper c
-one-more-endless empties lower upper c l m r u e f g = rw (eq-eqb upper 65535 u) (g ∙ ap (min (c + 1)) (f ∙ ap (λ (i : ℕ). max 1 (cond (eqb empties 1) 0 i)) e))
+pub enough-told : (least c : ℕ) (r : Bool) → Decides (least ≤ c) r → r ≡ leb least c
+enough-told least c r d = decided-same (least ≤ c) r (leb least c) d (enough-test c least least refl)
 
-pub one-more-below : (empties lower upper c : ℕ) → (upper ≡ 65535 → ⊥) → c < upper → c + 1 ≡ oneMore empties lower upper c
-one-more-below empties lower upper c u h = rw (ne-eqb upper 65535 u, lt-ltb c upper h)
-
-pub one-more-full : (empties lower upper c : ℕ) → (upper ≡ 65535 → ⊥) → upper ≤ c → c ≡ oneMore empties lower upper c
-one-more-full empties lower upper c u h = rw (ne-eqb upper 65535 u, le-ltb c upper h)
-
-pub raised-there : (nodes plan c : List ℕ) (x r e v : ℕ) → kindOf (held nodes x) ≡ 4 → r ≡ rankAt plan x → e ≡ emptyAt plan (x - 1)
-    → v ≡ oneMore e (lowerOf (held nodes x)) (upperOf (held nodes x)) (getD c r 0)
-    → set c r v ≡ raised nodes plan x c
-raised-there nodes plan c x r e v k f g h =
+pub raised-there : (nodes : List ℕ) (nulls : List Bool) (plan c : List ℕ) (x r v : ℕ) → kindOf (held nodes x) ≡ 4 → r ≡ rankAt plan x
+    → v ≡ oneMore (held nodes x) (getD nulls (x - 1) false) (getD c r 0)
+    → set c r v ≡ raised nodes nulls plan x c
+raised-there nodes nulls plan c x r v k f h =
     taken-as (eqb (kindOf (held nodes x)) 4) _ c (set c r v) (eq-eqb (kindOf (held nodes x)) 4 k)
-    (ap (set c r) h
-    ∙ ap (λ (i : ℕ). set c r (oneMore i (lowerOf (held nodes x)) (upperOf (held nodes x)) (getD c r 0))) g
-    ∙ ap (λ (i : ℕ). set c i (oneMore (emptyAt plan (x - 1)) (lowerOf (held nodes x)) (upperOf (held nodes x)) (getD c i 0))) f)
+    (ap (set c r) h ∙ ap (λ (i : ℕ). set c i (oneMore (held nodes x) (getD nulls (x - 1) false) (getD c i 0))) f)
 
-pub raised-not : (nodes plan c : List ℕ) (x : ℕ) → (kindOf (held nodes x) ≡ 4 → ⊥) → c ≡ raised nodes plan x c
-raised-not nodes plan c x k = rw (ne-eqb (kindOf (held nodes x)) 4 k)
+pub raised-not : (nodes : List ℕ) (nulls : List Bool) (plan c : List ℕ) (x : ℕ) → (kindOf (held nodes x) ≡ 4 → ⊥) → c ≡ raised nodes nulls plan x c
+raised-not nodes nulls plan c x k = rw (ne-eqb (kindOf (held nodes x)) 4 k)
 
 pub marked-there : (nodes plan c : List ℕ) (y r : ℕ) → kindOf (held nodes y) ≡ 4 → r ≡ rankAt plan y → set c r 1 ≡ marked nodes plan y c
 marked-there nodes plan c y r k e = taken-as (eqb (kindOf (held nodes y)) 4) _ c (set c r 1) (eq-eqb (kindOf (held nodes y)) 4 k) (ap (λ (i : ℕ). set c i 1) e)
@@ -92,12 +97,13 @@ cleared-all from to i c d h m w = record {
 pub cleared-as : {a b i j : ℕ} {c d : List ℕ} → a ≡ i → b ≡ j → Cleared a b c d → Cleared i j c d
 cleared-as {a} {b} {i} {j} {c} {d} e f w = subst (λ (k : ℕ). Cleared i k c d) f (subst (λ (k : ℕ). Cleared k b c d) e w)
 
-pub set-one : {nodes plan : List ℕ} {x y u : ℕ} {c l z : List ℕ} → y < x → u ≡ aboveAt plan y → l ≡ marked nodes plan y c → Sets nodes plan x u l z
-    → Sets nodes plan x y c z
-set-one {nodes} {plan} {x} {y} {u} {c} {l} {z} h e f w =
-    next h (subst (λ (k : List ℕ). Sets nodes plan x (aboveAt plan y) k z) f (subst (λ (i : ℕ). Sets nodes plan x i l z) e w))
+pub mark-one : {nodes plan : List ℕ} {x y u : ℕ} {c l z : List ℕ} → y < x → u ≡ aboveAt plan y → l ≡ marked nodes plan y c → MarksUp nodes plan x u l z
+    → MarksUp nodes plan x y c z
+mark-one {nodes} {plan} {x} {y} {u} {c} {l} {z} h e f w =
+    next h (subst (λ (k : List ℕ). MarksUp nodes plan x (aboveAt plan y) k z) f (subst (λ (i : ℕ). MarksUp nodes plan x i l z) e w))
 
-pub turned-by : {nodes plan : List ℕ} {x : ℕ} (q : ℕ) {c z l d : List ℕ} → Cleared (rankAt plan (startAt plan x)) (rankAt plan x) c z → l ≡ raised nodes plan x z
-    → Sets nodes plan x (aboveAt plan q) l d
-    → Turned nodes plan x q c d
-turned-by {nodes} {plan} {x} q {c} {z} {l} {d} w e s = (z, w, subst (λ (k : List ℕ). Sets nodes plan x (aboveAt plan q) k d) e s)
+pub turned-by : {nodes : List ℕ} (starts : List ℕ) (nulls : List Bool) {plan : List ℕ} {x : ℕ} (q : ℕ) {c z l d : List ℕ}
+    → Cleared (rankAt plan (startAt starts x)) (rankAt plan x) c z → l ≡ raised nodes nulls plan x z
+    → MarksUp nodes plan x (aboveAt plan q) l d
+    → Turned nodes starts nulls plan x q c d
+turned-by {nodes} starts nulls {plan} {x} q {c} {z} {l} {d} w e s = (z, w, subst (λ (k : List ℕ). MarksUp nodes plan x (aboveAt plan q) k d) e s)

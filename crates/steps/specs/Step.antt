@@ -1,4 +1,5 @@
--- What a step promises, from the tree: the way to an event node, and the counters of the place it leads to.
+-- What a step gives, from the tree: the way to an event node, and the counters of the place it leads to. A model of our code, and no
+-- promise.
 use mathlib.Core.Path.{_≡_}
 use mathlib.Core.Bool.{Bool, true, false}
 use mathlib.Core.List.{List}
@@ -6,7 +7,7 @@ use Prim.Native.Nat.{ℕ}
 use Rattle.meaning.specs.Expr.{Expr}
 use Rattle.meaning.specs.theory.Places.{Place, nodeOf}
 use Rattle.meaning.specs.theory.Ways.{entry, enters, apart, way, turns, ends}
-use Rattle.steps.specs.Counts.{Marked}
+use Rattle.meaning.specs.theory.Counts.{Marked}
 
 -- from place p to event node q, with the counters c before and d after: yes exactly if the way turns to a place, whose counters d are
 pub data Stepped (e : Expr) (p : Place e) (q : ℕ) : Bool → List ℕ → List ℕ → Type 0 where

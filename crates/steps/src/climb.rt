@@ -1,12 +1,11 @@
 // The way up from an event node: at each node that matters it turns towards another event node, goes on, or is stuck.
 ghost use mathlib.Core.Path.{_≡_};
-ghost use mathlib.Core.Bool.{_&&_};
 ghost use Prim.Native.Nat.{_+_, _≤_, _<_};
-ghost use lib.ListN.{getD};
-ghost use Rattle.procedure.specs.Entry.{held, unpacked};
-ghost use Rattle.plan.specs.Plan.{startsOf, aboveAt, rankAt, Rises, Ranked};
-ghost use Rattle.steps.specs.Climb.{moreOf, enoughOf, lookInto, lookRepeat, lookOf, Climbs};
-use plan::table;
+ghost use Rattle.procedure.specs.Entry.{unpacked};
+ghost use Rattle.plan.specs.Plan.{aboveAt, Ranked, Rises};
+ghost use Rattle.steps.specs.Climb.{againOf, lookInto, lookRepeat, lookOf, Climbs};
+use plan::link;
+use procedure::bounds;
 use procedure::entry;
 
 // What the way does at a node.
@@ -29,84 +28,87 @@ pub enum Turn {
     Stuck,
 }
 
-// Whether a repeat with c blocks begun may begin one more.
-fn more(node: u64, c: u16) -> bool
-    ensures { λ r. ⌜ r ≡ moreOf (unpacked node) c ⌝ }
-{
-    if entry::upper_of(node) == entry::NO_BOUND {
-        return true;
-    }
-    c < entry::upper_of(node)
-}
-
 // At a sequence, of whose right part y is the node.
-fn look_into(plan: &[u64; 512], y: usize, q: usize) -> Look
+fn look_into(
+    starts: &[u16; 512],
+    nulls: &[bool; 512],
+    plan: &[u64; 512],
+    y: usize,
+    q: usize,
+) -> Look
     requires { ⌜ y < 512 ⌝ }
-    ensures { λ r. ⌜ r ≡ lookInto (now (plan .entry)) y q ⌝ }
+    ensures { λ r. ⌜ r ≡ lookInto (now (starts .entry)) (now (nulls .entry)) (now (plan .entry)) y q ⌝ }
 {
-    if plan::starts(plan, y, q) {
+    if plan::begins(starts, plan, y, q) {
         return Look::Turns;
     }
-    if table::empty_of(plan[y]) == 1 {
+    if nulls[y] {
         return Look::On;
     }
     Look::Stops
 }
 
 // Whether the repeat with c blocks begun may begin one more with q; y is the node of its body.
-fn again(node: u64, plan: &[u64; 512], c: u16, y: usize, q: usize) -> bool
+fn again(node: u64, starts: &[u16; 512], plan: &[u64; 512], c: u16, y: usize, q: usize) -> bool
     requires { ⌜ y < 512 ⌝ }
-    ensures { λ r. ⌜ r ≡ startsOf (now (plan .entry)) y q && moreOf (unpacked node) c ⌝ }
+    ensures { λ r. ⌜ r ≡ againOf (unpacked node) (now (starts .entry)) (now (plan .entry)) c y q ⌝ }
 {
-    if plan::starts(plan, y, q) {
-        return more(node, c);
+    if plan::begins(starts, plan, y, q) {
+        return bounds::allows(node, numbers::wide(c) + 1);
     }
     false
 }
 
-// Whether c blocks are enough; y is the node of the body.
-fn enough(node: u64, plan: &[u64; 512], c: u16, y: usize) -> bool
-    requires { ⌜ y < 512 ⌝ }
-    ensures { λ r. ⌜ r ≡ enoughOf (unpacked node) (now (plan .entry)) c y ⌝ }
-{
-    if table::empty_of(plan[y]) == 1 {
-        return true;
-    }
-    entry::lower_of(node) <= c
-}
-
 // At a repeat with c blocks begun, of whose body y is the node.
-fn look_repeat(node: u64, plan: &[u64; 512], c: u16, y: usize, q: usize) -> Look
+fn look_repeat(
+    node: u64,
+    starts: &[u16; 512],
+    nulls: &[bool; 512],
+    plan: &[u64; 512],
+    c: u16,
+    y: usize,
+    q: usize,
+) -> Look
     requires { ⌜ y < 512 ⌝ }
-    ensures { λ r. ⌜ r ≡ lookRepeat (unpacked node) (now (plan .entry)) c y q ⌝ }
+    ensures { λ r. ⌜ r ≡ lookRepeat (unpacked node) (now (starts .entry)) (now (nulls .entry)) (now (plan .entry)) c y q ⌝ }
 {
-    if again(node, plan, c, y, q) {
+    if again(node, starts, plan, c, y, q) {
         return Look::Turns;
     }
-    if enough(node, plan, c, y) {
+    if bounds::enough(node, nulls[y], numbers::wide(c)) {
         return Look::On;
     }
     Look::Stops
 }
 
 // At node x.
-fn look_at(nodes: &[u64; 512], plan: &[u64; 512], counts: &[u16; 32], x: usize, q: usize) -> Look
+fn look_at(
+    nodes: &[u64; 512],
+    starts: &[u16; 512],
+    nulls: &[bool; 512],
+    plan: &[u64; 512],
+    counts: &[u16; 32],
+    x: usize,
+    q: usize,
+) -> Look
     requires { ⌜ 1 ≤ x ⌝ }
     requires { ⌜ x < 512 ⌝ }
     requires { ⌜ Ranked (now nodes) (now plan) x ⌝ }
-    ensures { λ r. ⌜ r ≡ lookOf (now (nodes .entry)) (now (plan .entry)) (now (counts .entry)) x q ⌝ }
+    ensures { λ r. ⌜ r ≡ lookOf (now (nodes .entry)) (now (starts .entry)) (now (nulls .entry)) (now (plan .entry)) (now (counts .entry)) x q ⌝ }
 {
     let node = nodes[x];
     if entry::kind_of(node) != entry::REPEAT {
-        return look_into(plan, x - 1, q);
+        return look_into(starts, nulls, plan, x - 1, q);
     }
-    let rank = table::rank_of(plan[x]);
-    look_repeat(node, plan, counts[rank], x - 1, q)
+    let rank = link::rank_of(plan[x]);
+    look_repeat(node, starts, nulls, plan, counts[rank], x - 1, q)
 }
 
 // From event node p towards event node q; towards no node with a q from n on.
 pub fn climb(
     nodes: &[u64; 512],
+    starts: &[u16; 512],
+    nulls: &[bool; 512],
     plan: &[u64; 512],
     n: usize,
     counts: &[u16; 32],
@@ -115,12 +117,12 @@ pub fn climb(
 ) -> Turn
     requires { ⌜ n ≤ 512 ⌝ }
     requires { ⌜ p < n ⌝ }
-    requires { ⌜ Rises (now nodes) (now plan) n ⌝ }
-    ensures { λ r. ⌜ Climbs (now (nodes .entry)) (now (plan .entry)) (now (counts .entry)) n q (aboveAt (now (plan .entry)) p) r ⌝ }
+    requires { ⌜ Rises (now nodes) (now starts) (now plan) n ⌝ }
+    ensures { λ r. ⌜ Climbs (now (nodes .entry)) (now (starts .entry)) (now (nulls .entry)) (now (plan .entry)) (now (counts .entry)) n q (aboveAt (now (plan .entry)) p) r ⌝ }
 {
-    let mut x = table::above_of(plan[p]);
+    let mut x = link::above_of(plan[p]);
     while x < n {
-        match look_at(nodes, plan, counts, x, q) {
+        match look_at(nodes, starts, nulls, plan, counts, x, q) {
             Look::Turns => {
                 return Turn::At(x);
             }
@@ -128,7 +130,7 @@ pub fn climb(
                 return Turn::Stuck;
             }
             Look::On => {
-                x = table::above_of(plan[x]);
+                x = link::above_of(plan[x]);
             }
         }
     }

@@ -16,9 +16,11 @@ use Rattle.meaning.specs.Expr.{Expr, empty, event, choice, sequence, repeat, si
 use Rattle.meaning.specs.Node.{Node, Stands}
 use Rattle.meaning.specs.Normal.{nullable}
 use Rattle.meaning.specs.Sets.{First}
-use Rattle.procedure.specs.Entry.{kindOf, codeOf, leftOf}
-use Rattle.write.specs.Lay.{FirstAt, Firsts}
-use Rattle.record.specs.Walk.{NullAt, Nulls}
+use Rattle.procedure.specs.Entry.{held, kindOf, codeOf, leftOf}
+use Rattle.procedure.specs.Listing.{NullAt, OneOf, TellsNulls}
+use Rattle.procedure.proofs.Empties.{nulls-fewer}
+use Rattle.procedure.proofs.Nodes.{one-lower}
+use Rattle.write.specs.Lay.{FirstAt, TellsFirsts}
 use Rattle.procedure.proofs.Standing.{Pair, kindNumber, standing-kind, at-choice, at-sequence, at-repeat, at-leaf}
 
 iff-or : {A B C D : Type 0} → A ↔ C → B ↔ D → (A ⊎ B) ↔ (C ⊎ D)
@@ -43,24 +45,24 @@ module _ (g : ℕ → Node) (i kind : ℕ) (told : kind ≡ kindOf (g i)) where
       go s (sequence a b) p h m = absurd (omega arith)
       go s (repeat b lower upper) p h m = absurd (omega arith)
 
-  module _ (firsts : List ℕ) (known : Firsts g firsts i) (some : 1 ≤ i) where
+  module _ (firsts : List ℕ) (known : TellsFirsts g firsts i) (some : 1 ≤ i) where
     pub first-repeat : kind ≡ 4 → FirstAt g i (getD firsts (i - 1) 0)
-    unfolding Firsts FirstAt
+    unfolding TellsFirsts FirstAt
     first-repeat k = λ s. at-repeat g s i kind told (λ e. (c : ℕ) → Has (getD firsts (i - 1) 0) c ↔ First e c) k
         (λ b p h q. known (i - 1) (omega arith) s b p h)
 
-    module _ (nulls : List Bool) (empties : Nulls g nulls i) (left : ℕ) (f : left ≡ leftOf (g i)) (two : 2 ≤ kind) (no-repeat : ¬ (kind ≡ 4)) where
+    module _ (nulls : List Bool) (empties : TellsNulls g nulls i) (left : ℕ) (f : left ≡ leftOf (g i)) (two : 2 ≤ kind) (no-repeat : ¬ (kind ≡ 4)) where
       -- the children's, where two stand
       of-left : (s : ℕ) (a b : Expr) → Pair g s i left a b → (c : ℕ) → Has (getD firsts left 0) c ↔ First a c
-      unfolding Firsts FirstAt
+      unfolding TellsFirsts FirstAt
       of-left s a b p = known left (omega (arith, p .next, p .here)) s a (p .first) (p .first-at)
 
       of-right : (s : ℕ) (a b : Expr) → Pair g s i left a b → (c : ℕ) → Has (getD firsts (i - 1) 0) c ↔ First b c
-      unfolding Firsts FirstAt
+      unfolding TellsFirsts FirstAt
       of-right s a b p = known (i - 1) (omega arith) (s + size a) b (p .second) (p .second-at)
 
       passed : (s : ℕ) (a b : Expr) → Pair g s i left a b → getD nulls left false ≡ nullable a
-      unfolding Nulls NullAt
+      unfolding TellsNulls NullAt
       passed s a b p = empties left (omega (arith, p .next, p .here)) s a (p .first) (p .first-at)
 
       pub first-left : (eqb kind 2 || getD nulls left false) ≡ false → FirstAt g i (getD firsts left 0)
@@ -94,16 +96,27 @@ module _ (g : ℕ → Node) (i kind : ℕ) (told : kind ≡ kindOf (g i)) where
             go (yes k) = first-choice k
             go (no k) = first-both k (sym (ap (λ (t : Bool). t || getD nulls left false) (ne-eqb kind 2 k)) ∙ either)
 
--- ---- the list of them
+-- ---- the table of them
 
-pub firsts-none : (g : ℕ → Node) (firsts : List ℕ) → Firsts g firsts 0
-unfolding Firsts
+pub firsts-none : (g : ℕ → Node) (firsts : List ℕ) → TellsFirsts g firsts 0
+unfolding TellsFirsts
 firsts-none g firsts = λ j l. absurd (omega arith)
 
-pub firsts-more : (g : ℕ → Node) (firsts : List ℕ) (i first : ℕ) → i < length firsts → Firsts g firsts i → FirstAt g i first
-    → Firsts g (set firsts i first) (i + 1)
-unfolding Firsts
+pub firsts-more : (g : ℕ → Node) (firsts : List ℕ) (i first : ℕ) → i < length firsts → TellsFirsts g firsts i → FirstAt g i first
+    → TellsFirsts g (set firsts i first) (i + 1)
+unfolding TellsFirsts
 firsts-more g firsts i first h known here =
     below-more _ i
     (λ j l. subst (FirstAt g j) (sym (getD-set-other firsts i j first 0 (omega arith))) (known j l))
     (subst (FirstAt g i) (sym (getD-set-same firsts i first 0 h)) here)
+
+pub first-told : (g : ℕ → Node) (firsts : List ℕ) (n i : ℕ) → TellsFirsts g firsts n → i < n → FirstAt g i (getD firsts i 0)
+unfolding TellsFirsts
+first-told g firsts n i told l = told i l
+
+-- what is known up to a node is known up to every lower one
+pub known-lower : (nodes : List ℕ) (nulls : List Bool) (firsts : List ℕ) (i j : ℕ) → j ≤ i → OneOf nodes i → TellsNulls (held nodes) nulls (i + 1)
+    → TellsFirsts (held nodes) firsts (i + 1) → OneOf nodes j × TellsNulls (held nodes) nulls (j + 1) × TellsFirsts (held nodes) firsts (j + 1)
+unfolding TellsFirsts
+known-lower nodes nulls firsts i j h o known begun =
+    (one-lower i j h o, nulls-fewer (held nodes) nulls (j + 1) (i + 1) (omega arith) known, λ k l. begun k (omega arith))

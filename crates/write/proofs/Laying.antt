@@ -10,88 +10,51 @@ use lib.ListN.{length, drop, getD, length-append}
 use lib.Seq.{drop-cons}
 use Rattle.meaning.specs.Codes.{Has}
 use Rattle.meaning.specs.Expr.{Expr, event, choice, sequence, size}
-use Rattle.meaning.specs.Node.{InOrder, Node}
+use Rattle.meaning.specs.Node.{Node}
 use Rattle.meaning.specs.Reading.{Item, place, Reading}
 use Rattle.meaning.specs.Record.{itemNumber}
 use Rattle.meaning.specs.Sets.{First}
 use Rattle.meaning.specs.theory.Conflicts.{Free}
-use Rattle.meaning.proofs.expressions.Parts.{root-size}
 use Rattle.procedure.specs.Entry.{kindOf, leftOf}
+use Rattle.procedure.specs.Listing.{NullAt}
 use Rattle.procedure.specs.Tests.{Decides}
 use Rattle.write.specs.declared.lay.Laid.{Laid}
-use Rattle.write.specs.declared.lay.Laid.the-variants.{To, Stuck}
-use Rattle.record.specs.Walk.{NullAt, Nulls}
+use Rattle.write.specs.declared.lay.Laid.the-variants.{To, Unlaid}
 use Rattle.record.specs.Put.{putAt, puts}
-use Rattle.write.specs.Lay.{Ends, FirstAt, Firsts, Lays, LaysAt, NextIn, Onward, Ready, Rest, Room, Told, from, nowhere, reach}
-use Rattle.record.proofs.Empties.{nulls-fewer}
-use Rattle.write.proofs.Lays.{Unbegun, choice-left, choice-right, lays-event, lays-nothing, lays-nowhere, onto, sequence-both, sequence-nowhere}
+use Rattle.write.specs.Lay.{Advances, Division, FirstAt, Halts, Lays, LaysAt, Leeway, NextIn, Reported, into, never, reach}
+use Rattle.write.proofs.Lays.{Unbegun, choice-left, choice-right, lays-event, lays-nothing, lays-never, onto, sequence-both, sequence-never}
 use Rattle.write.proofs.Reaches.{reach-narrow, reach-wide}
-use Rattle.procedure.proofs.Standing.{at-leaf, at-choice, at-sequence, at-repeat, at-pair}
+use Rattle.procedure.proofs.Standing.{at-leaf, at-choice, at-sequence}
 
 -- ---- how a walk ends
 
-pub ends-decided : (P : Type 0) (b : Bool) (at to : ℕ) (r : Laid) → Decides P b → Ends (So b) at to r → Ends P at to r
-ends-decided P true at to (To a t) d e = (d, e .1, e .2)
-ends-decided P true at to Stuck d e = absurd (e refl)
-ends-decided P false at to (To a t) d e = absurd (false≢true (e .0))
-ends-decided P false at to Stuck d e = d
+pub halts-decided : (P : Type 0) (b : Bool) (at to : ℕ) (r : Laid) → Decides P b → Halts (So b) at to r → Halts P at to r
+halts-decided P true at to (To a t) d e = (d, e .1, e .2)
+halts-decided P true at to Unlaid d e = absurd (e refl)
+halts-decided P false at to (To a t) d e = absurd (false≢true (e .0))
+halts-decided P false at to Unlaid d e = d
 
 module _ (run : List ℕ) (i at to : ℕ) where
-  pub onward-ends : (P : Type 0) (r : Laid) → at ≤ length run → Ends P at to r → Onward run i at to r
-  onward-ends P (To a t) l e =
+  pub advances-halts : (P : Type 0) (r : Laid) → at ≤ length run → Halts P at to r → Advances run i at to r
+  advances-halts P (To a t) l e =
       let same : reach run i a t ≡ reach run i at to = λ k. reach run i (e .1 k) (e .2 k) in
       (omega (arith, e .1), omega (arith, e .1), omega arith)
-  onward-ends P Stuck l e = tt
+  advances-halts P Unlaid l e = tt
 
   -- a walk of the part from further on, and one of a part below it
-  pub onward-further : (a t : ℕ) (r : Laid) → at ≤ a → reach run i a t ≤ reach run i at to → Onward run i a t r → Onward run i at to r
-  onward-further a t (To b u) l h o = (omega (arith, o .0), o .1, omega (arith, o .2))
-  onward-further a t Stuck l h o = tt
+  pub advances-further : (a t : ℕ) (r : Laid) → at ≤ a → reach run i a t ≤ reach run i at to → Advances run i a t r → Advances run i at to r
+  advances-further a t (To b u) l h o = (omega (arith, o .0), o .1, omega (arith, o .2))
+  advances-further a t Unlaid l h o = tt
 
-  pub onward-wide : (j : ℕ) (r : Laid) → j ≤ i → Onward run j at to r → Onward run i at to r
-  onward-wide j (To a t) h o = (o .0, o .1, reach-wide run i at to j a t h (o .0) (o .2))
-  onward-wide j Stuck h o = tt
+  pub advances-wide : (j : ℕ) (r : Laid) → j ≤ i → Advances run j at to r → Advances run i at to r
+  advances-wide j (To a t) h o = (o .0, o .1, reach-wide run i at to j a t h (o .0) (o .2))
+  advances-wide j Unlaid h o = tt
 
-  pub room-narrow : (j : ℕ) → j ≤ i → Room run i at to → Room run j at to
-  room-narrow j h room = record { short = room .short; inside = room .inside; fits = omega (arith, room .fits, reach-narrow run i at to j h) }
+  pub leeway-narrow : (j : ℕ) → j ≤ i → Leeway run i at to → Leeway run j at to
+  leeway-narrow j h room = record { short = room .short; inside = room .inside; fits = omega (arith, room .fits, reach-narrow run i at to j h) }
 
-  pub room-further : (a t : ℕ) → a ≤ length run → reach run i a t ≤ reach run i at to → Room run i at to → Room run i a t
-  room-further a t l h room = record { short = room .short; inside = l; fits = omega (arith, room .fits) }
-
--- ---- the parts of a part
-
-module _ (g : ℕ → Node) (nulls : List Bool) (firsts : List ℕ) (i : ℕ) (ready : Ready g nulls firsts i) where
-  ready-below : (j : ℕ) → j ≤ i → InOrder g j → Ready g nulls firsts j
-  unfolding Firsts
-  ready-below j h part =
-      record {
-        part = part;
-        small = omega (arith, ready .small);
-        nulls-known = nulls-fewer g nulls (suc j) (suc i) (omega arith) (ready .nulls-known);
-        firsts-known = λ k l. ready .firsts-known k (omega arith);
-      }
-
-  module _ (kind : ℕ) (told : kind ≡ kindOf (g i)) where
-    pub ready-left : (left : ℕ) → left ≡ leftOf (g i) → 2 ≤ kind → ¬ (kind ≡ 4) → Ready g nulls firsts left × (left < i)
-    ready-left left f k n =
-        at-pair (Ready g nulls firsts left × (left < i)) g (ready .part .0) i kind left told f k n
-        (λ a b p. let below : left < i = omega (arith, p .next, p .here) in
-        (ready-below left (omega arith) (ready .part .0, a, p .first, p .first-at), below))
-        (ready .part .1, ready .part .2, ready .part .3)
-
-    pub ready-right : 2 ≤ kind → ¬ (kind ≡ 4) → Ready g nulls firsts (i - 1) × (1 ≤ i)
-    ready-right k n =
-        at-pair (Ready g nulls firsts (i - 1) × (1 ≤ i)) g (ready .part .0) i kind (leftOf (g i)) told refl k n
-        (λ a b p. let some : 1 ≤ i = omega (arith, p .here, p .next) in
-        (ready-below (i - 1) (omega arith) (ready .part .0 + size a, b, p .second, p .second-at), some))
-        (ready .part .1, ready .part .2, ready .part .3)
-
-    pub ready-body : kind ≡ 4 → Ready g nulls firsts (i - 1) × (1 ≤ i)
-    ready-body k =
-        at-repeat g (ready .part .0) i kind told (λ e. Ready g nulls firsts (i - 1) × (1 ≤ i)) k
-        (λ b p h q. let some : 1 ≤ i = omega (arith, root-size (ready .part .0) b) in
-        (ready-below (i - 1) (omega arith) (ready .part .0, b, p, h), some))
-        (ready .part .1) (ready .part .2) (ready .part .3)
+  pub leeway-further : (a t : ℕ) → a ≤ length run → reach run i a t ≤ reach run i at to → Leeway run i at to → Leeway run i a t
+  leeway-further a t l h room = record { short = room .short; inside = l; fits = omega (arith, room .fits) }
 
 -- ---- the code at a place
 
@@ -114,83 +77,82 @@ puts-both (a ∷ x) y space to =
     puts-both x y (putAt space to (itemNumber a)) (to + 1)
     ∙ ap (λ (k : ℕ). puts (puts (putAt space to (itemNumber a)) (to + 1) (map itemNumber x)) k (map itemNumber y)) e
 
-pub told-onto : (run space mid after : List ℕ) (to t : ℕ) (x : List Item) (q : Rest) (r : Laid) → t ≡ to + length x
-    → mid ≡ puts space to (map itemNumber x) → Told run mid t q r after → Told run space to (onto x q) r after
-told-onto run space mid after to t x (from y v) (To a u) e m told = (
+reported-onto : (run space mid after : List ℕ) (to t : ℕ) (x : List Item) (q : Division) (r : Laid) → t ≡ to + length x
+    → mid ≡ puts space to (map itemNumber x) → Reported run mid t q r after → Reported run space to (onto x q) r after
+reported-onto run space mid after to t x (into y v) (To a u) e m told = (
   told .0,
   told .1 ∙ omega (arith, length-append x y),
   told .2 ∙ (λ i. puts (m i) (e i) (map itemNumber y)) ∙ sym (puts-both x y space to),
 )
-told-onto run space mid after to t x (from y v) Stuck e m told = told
-told-onto run space mid after to t x nowhere (To a u) e m told = told
-told-onto run space mid after to t x nowhere Stuck e m told = tt
+reported-onto run space mid after to t x (into y v) Unlaid e m told = told
+reported-onto run space mid after to t x never (To a u) e m told = told
+reported-onto run space mid after to t x never Unlaid e m told = tt
 
 -- ---- a part that is passed by, and a leaf
 
-module _ (g : ℕ → Node) (nulls : List Bool) (firsts run space : List ℕ) (i at to : ℕ) (ready : Ready g nulls firsts i) where
-  pub pass-by : (r : Laid) → ¬ NextIn (getD firsts i 0) run at → Ends (So (getD nulls i false)) at to r → LaysAt g run space i at to r space
-  unfolding LaysAt Nulls NullAt Firsts FirstAt
-  pass-by (To a t) out ends = λ s e p h free.
-      let null = ready .nulls-known i (omega arith) s e p h in
-      let unbegun = unbegun-at (getD firsts i 0) e run at (λ c. ready .firsts-known i (omega arith) s e p h c .1) out in
-      (from [] (drop at run), lays-nothing s e (drop at run) unbegun (sym null ∙ ends .0), (ap (λ (k : ℕ). drop k run) (sym (ends .1)), omega (arith, ends .2), refl))
-  pass-by Stuck out ends = λ s e p h free.
-      let null = ready .nulls-known i (omega arith) s e p h in
-      let unbegun = unbegun-at (getD firsts i 0) e run at (λ c. ready .firsts-known i (omega arith) s e p h c .1) out in
-      (nowhere, lays-nowhere s e (drop at run) unbegun (λ q. ends (null ∙ q)), tt)
+module _ (g : ℕ → Node) (set : ℕ) (run space : List ℕ) (i at to : ℕ) (begins : FirstAt g i set) where
+  pub pass-by : (null : Bool) (r : Laid) → NullAt g i null → ¬ NextIn set run at → Halts (So null) at to r → LaysAt g run space i at to r space
+  unfolding LaysAt NullAt FirstAt
+  pass-by null (To a t) known out ends = λ s e p h free.
+      let unbegun = unbegun-at set e run at (λ c. begins s e p h c .1) out in
+      (into [] (drop at run), lays-nothing s e (drop at run) unbegun (sym (known s e p h) ∙ ends .0), (ap (λ (k : ℕ). drop k run) (sym (ends .1)), omega (arith, ends .2), refl))
+  pass-by null Unlaid known out ends = λ s e p h free.
+      let unbegun = unbegun-at set e run at (λ c. begins s e p h c .1) out in
+      (never, lays-never s e (drop at run) unbegun (λ q. ends (known s e p h ∙ q)), tt)
 
   -- the next code is in first of the part
-  module _ (kind : ℕ) (told : kind ≡ kindOf (g i)) (next : NextIn (getD firsts i 0) run at) where
+  module _ (kind : ℕ) (told : kind ≡ kindOf (g i)) (next : NextIn set run at) where
     pub leaf-lays : kind < 2 → LaysAt g run space i at to (To (at + 1) (to + 1)) (putAt space to i)
-    unfolding LaysAt Firsts FirstAt
+    unfolding LaysAt FirstAt
     leaf-lays k = λ s e p h free.
         at-leaf g s i kind told
         (λ e. First e (getD run at 0)
-        → (q : Rest) × Lays (Reading s e) e (drop at run) q × Told run space to q (To (at + 1) (to + 1)) (putAt space to i)) k
+        → (q : Division) × Lays (Reading s e) e (drop at run) q × Reported run space to q (To (at + 1) (to + 1)) (putAt space to i)) k
         (λ same z f. absurd f)
         (λ c same z f. (
-          from (place s c ∷ []) (drop (at + 1) run),
-          subst (λ (w : List ℕ). Lays (Reading s (event c)) (event c) w (from (place s c ∷ []) (drop (at + 1) run))) (sym (next-there (getD firsts i 0) run at next))
+          into (place s c ∷ []) (drop (at + 1) run),
+          subst (λ (w : List ℕ). Lays (Reading s (event c)) (event c) w (into (place s c ∷ []) (drop (at + 1) run))) (sym (next-there set run at next))
               (lays-event s c (getD run at 0) (drop (at + 1) run) f),
           (refl, refl, ap (putAt space to) (same ∙ omega arith)),
         ))
-        e p h (ready .firsts-known i (omega arith) s e p h (getD run at 0) .0 (next .1))
+        e p h (begins s e p h (getD run at 0) .0 (next .1))
 
     -- ---- a choice
 
-    module _ (after : List ℕ) (r : Laid) (left : ℕ) (f : left ≡ leftOf (g i)) (k : kind ≡ 2) where
-      pub choice-goes-left : NextIn (getD firsts left 0) run at → LaysAt g run space left at to r after → LaysAt g run space i at to r after
-      unfolding LaysAt Firsts FirstAt
+    module _ (after : List ℕ) (r : Laid) (left : ℕ) (f : left ≡ leftOf (g i)) (k : kind ≡ 2)
+        (lefts : ℕ) (left-begins : FirstAt g left lefts) where
+      pub choice-goes-left : NextIn lefts run at → LaysAt g run space left at to r after → LaysAt g run space i at to r after
+      unfolding LaysAt FirstAt
       choice-goes-left here a = λ s.
-          at-choice g s i kind told (λ e. Free e → (q : Rest) × Lays (Reading s e) e (drop at run) q × Told run space to q r after) left f k
+          at-choice g s i kind told (λ e. Free e → (q : Division) × Lays (Reading s e) e (drop at run) q × Reported run space to q r after) left f k
           (λ x y t free.
           let h = a s x (t .first) (t .first-at) (free .0) in
-          let there = next-there (getD firsts i 0) run at next in
-          let begins = ready .firsts-known left (omega (arith, t .next, t .here)) s x (t .first) (t .first-at) (getD run at 0) .0 (here .1) in (
+          let there = next-there set run at next in
+          let there-left = left-begins s x (t .first) (t .first-at) (getD run at 0) .0 (here .1) in (
             h .0,
             subst (λ (w : List ℕ). Lays (Reading s (choice x y)) (choice x y) w (h .0)) (sym there)
-                (choice-left s x y (getD run at 0) (drop (at + 1) run) (h .0) free begins (subst (λ (w : List ℕ). Lays (Reading s x) x w (h .0)) there (h .1))),
+                (choice-left s x y (getD run at 0) (drop (at + 1) run) (h .0) free there-left (subst (λ (w : List ℕ). Lays (Reading s x) x w (h .0)) there (h .1))),
             h .2,
           ))
 
-      pub choice-goes-right : ¬ NextIn (getD firsts left 0) run at → LaysAt g run space (i - 1) at to r after → LaysAt g run space i at to r after
-      unfolding LaysAt Firsts FirstAt
+      pub choice-goes-right : ¬ NextIn lefts run at → LaysAt g run space (i - 1) at to r after → LaysAt g run space i at to r after
+      unfolding LaysAt FirstAt
       choice-goes-right out a = λ s e p h free.
           at-choice g s i kind told
-          (λ e. First e (getD run at 0) → Free e → (q : Rest) × Lays (Reading s e) e (drop at run) q × Told run space to q r after) left f k
+          (λ e. First e (getD run at 0) → Free e → (q : Division) × Lays (Reading s e) e (drop at run) q × Reported run space to q r after) left f k
           (λ x y t whole free.
           let h = a (s + size x) y (t .second) (t .second-at) (free .1) in
-          let there = next-there (getD firsts i 0) run at next in
+          let there = next-there set run at next in
           let other : ¬ First x (getD run at 0) =
-          λ z. out (next .0, ready .firsts-known left (omega (arith, t .next, t .here)) s x (t .first) (t .first-at) (getD run at 0) .1 z) in
-          let begins : First y (getD run at 0) = ⊎-elim (λ z. absurd (other z)) (λ z. z) whole in (
+          λ z. out (next .0, left-begins s x (t .first) (t .first-at) (getD run at 0) .1 z) in
+          let there-right : First y (getD run at 0) = ⊎-elim (λ z. absurd (other z)) (λ z. z) whole in (
             h .0,
             subst (λ (w : List ℕ). Lays (Reading s (choice x y)) (choice x y) w (h .0)) (sym there)
-                (choice-right s x y (getD run at 0) (drop (at + 1) run) (h .0) begins other
+                (choice-right s x y (getD run at 0) (drop (at + 1) run) (h .0) there-right other
                 (subst (λ (w : List ℕ). Lays (Reading (s + size x) y) y w (h .0)) there (h .1))),
             h .2,
           ))
-          e p h (ready .firsts-known i (omega arith) s e p h (getD run at 0) .0 (next .1)) free
+          e p h (begins s e p h (getD run at 0) .0 (next .1)) free
 
 -- ---- a sequence
 
@@ -200,29 +162,29 @@ module _ (g : ℕ → Node) (run space mid : List ℕ) (i at to kind left : ℕ)
       → LaysAt g run space i at to r after
   unfolding LaysAt
   sequence-goes after r a t first second = λ s.
-      at-sequence g s i kind told (λ e. Free e → (q : Rest) × Lays (Reading s e) e (drop at run) q × Told run space to q r after) left f k no-choice no-repeat
+      at-sequence g s i kind told (λ e. Free e → (q : Division) × Lays (Reading s e) e (drop at run) q × Reported run space to q r after) left f k no-choice no-repeat
       (λ x y p free.
       let h = first s x (p .first) (p .first-at) (free .0) in
       let m = second (s + size x) y (p .second) (p .second-at) (free .1) in
       both s x y free (h .0) (h .1) (h .2) (m .0) (m .1) (m .2))
     where
-      both : (s : ℕ) (x y : Expr) → Free (sequence x y) → (h : Rest) → Lays (Reading s x) x (drop at run) h → Told run space to h (To a t) mid
-          → (m : Rest) → Lays (Reading (s + size x) y) y (drop a run) m → Told run mid t m r after
-          → (q : Rest) × Lays (Reading s (sequence x y)) (sequence x y) (drop at run) q × Told run space to q r after
-      both s x y free (from z v) lays here m rest then = (
+      both : (s : ℕ) (x y : Expr) → Free (sequence x y) → (h : Division) → Lays (Reading s x) x (drop at run) h → Reported run space to h (To a t) mid
+          → (m : Division) → Lays (Reading (s + size x) y) y (drop a run) m → Reported run mid t m r after
+          → (q : Division) × Lays (Reading s (sequence x y)) (sequence x y) (drop at run) q × Reported run space to q r after
+      both s x y free (into z v) lays here m rest then = (
         onto z m,
         sequence-both s x y free (drop at run) v z m lays (subst (λ (w : List ℕ). Lays (Reading (s + size x) y) y w m) (sym (here .0)) rest),
-        told-onto run space mid after to t z m r (here .1) (here .2) then,
+        reported-onto run space mid after to t z m r (here .1) (here .2) then,
       )
-      both s x y free nowhere lays here m rest then = absurd here
+      both s x y free never lays here m rest then = absurd here
 
-  pub sequence-stuck : LaysAt g run space left at to Stuck mid → LaysAt g run space i at to Stuck mid
+  pub sequence-unlaid : LaysAt g run space left at to Unlaid mid → LaysAt g run space i at to Unlaid mid
   unfolding LaysAt
-  sequence-stuck first = λ s.
-      at-sequence g s i kind told (λ e. Free e → (q : Rest) × Lays (Reading s e) e (drop at run) q × Told run space to q Stuck mid) left f k no-choice no-repeat
+  sequence-unlaid first = λ s.
+      at-sequence g s i kind told (λ e. Free e → (q : Division) × Lays (Reading s e) e (drop at run) q × Reported run space to q Unlaid mid) left f k no-choice no-repeat
       (λ x y p free. let h = first s x (p .first) (p .first-at) (free .0) in none s x y free (h .0) (h .1) (h .2))
     where
-      none : (s : ℕ) (x y : Expr) → Free (sequence x y) → (h : Rest) → Lays (Reading s x) x (drop at run) h → Told run space to h Stuck mid
-          → (q : Rest) × Lays (Reading s (sequence x y)) (sequence x y) (drop at run) q × Told run space to q Stuck mid
-      none s x y free (from z v) lays here = absurd here
-      none s x y free nowhere lays here = (nowhere, sequence-nowhere s x y free (drop at run) lays, tt)
+      none : (s : ℕ) (x y : Expr) → Free (sequence x y) → (h : Division) → Lays (Reading s x) x (drop at run) h → Reported run space to h Unlaid mid
+          → (q : Division) × Lays (Reading s (sequence x y)) (sequence x y) (drop at run) q × Reported run space to q Unlaid mid
+      none s x y free (into z v) lays here = absurd here
+      none s x y free never lays here = (never, sequence-never s x y free (drop at run) lays, tt)

@@ -1,21 +1,23 @@
 // What a part lays of a run: the items of its reading, one after the other. In an admitted procedure the next code says where to go.
 ghost use mathlib.Core.Bool.{So};
 ghost use mathlib.Core.Path.{_≡_};
+ghost use Prim.Native.Nat.{_+_};
 ghost use Rattle.meaning.specs.Expr.{Within};
 ghost use Rattle.meaning.specs.Node.{bound};
 ghost use Rattle.procedure.specs.Entry.{held, kindOf, unpacked, upperOf};
+ghost use Rattle.procedure.specs.Listing.{OneOf, TellsNulls};
 ghost use Rattle.procedure.specs.Tests.{Decides};
-ghost use Rattle.write.specs.Lay.{Ends, LaysAt, NextIn, Onward, Ready, Room};
+ghost use Rattle.write.specs.Lay.{Advances, Halts, LaysAt, Leeway, NextIn, TellsFirsts};
+use procedure::bounds;
 use procedure::entry;
 use record::items;
-use record::walk;
 
 // What a walk over a part lays.
 pub enum Laid {
     // The events up to this place of the run, as the items up to this place of the record.
     To(usize, usize),
     // No reading of the part begins here.
-    Stuck,
+    Unlaid,
 }
 
 fn wide(x: u8) -> u32
@@ -41,17 +43,17 @@ fn another(set: u64, entry: u64, run: &[u8], at: usize, k: usize) -> bool
     if !next_in(set, run, at) {
         return false;
     }
-    walk::within(entry, k)
+    bounds::allows(entry, k)
 }
 
 // Up to these places, where the walk may end there.
 fn to_if(may: bool, event: usize, item: usize) -> Laid
-    ensures { λ r. ⌜ Ends (So may) event item r ⌝ }
+    ensures { λ r. ⌜ Halts (So may) event item r ⌝ }
 {
     if may {
         return Laid::To(event, item);
     }
-    Laid::Stuck
+    Laid::Unlaid
 }
 
 // What the part of node `node` lays of the run from `event` on, into the space from `item` on. The loop narrows the part; only the
@@ -66,9 +68,11 @@ pub fn lay(
     event: usize,
     item: usize,
 ) -> Laid
-    requires { ⌜ Ready (held (now nodes)) (now nulls) (now firsts) node ⌝ }
-    requires { ⌜ Room (now run) node event item ⌝ }
-    ensures { λ r. ⌜ Onward (now (run .entry)) node event item r ⌝ }
+    requires { ⌜ OneOf (now nodes) node ⌝ }
+    requires { ⌜ TellsNulls (held (now nodes)) (now nulls) (node + 1) ⌝ }
+    requires { ⌜ TellsFirsts (held (now nodes)) (now firsts) (node + 1) ⌝ }
+    requires { ⌜ Leeway (now run) node event item ⌝ }
+    ensures { λ r. ⌜ Advances (now (run .entry)) node event item r ⌝ }
     ensures { λ r. ⌜ LaysAt (held (now (nodes .entry))) (now (run .entry)) (now (space .entry)) node event item r (now (space .exit)) ⌝ }
 {
     let mut i = node;
@@ -96,7 +100,7 @@ pub fn lay(
             }
         } else {
             let Laid::To(a, t) = lay(nodes, nulls, firsts, run, space, left, at, to) else {
-                return Laid::Stuck;
+                return Laid::Unlaid;
             };
             at = a;
             to = t;
@@ -116,10 +120,12 @@ fn lay_blocks(
     event: usize,
     item: usize,
 ) -> Laid
-    requires { ⌜ Ready (held (now nodes)) (now nulls) (now firsts) i ⌝ }
-    requires { ⌜ Room (now run) i event item ⌝ }
+    requires { ⌜ OneOf (now nodes) i ⌝ }
+    requires { ⌜ TellsNulls (held (now nodes)) (now nulls) (i + 1) ⌝ }
+    requires { ⌜ TellsFirsts (held (now nodes)) (now firsts) (i + 1) ⌝ }
+    requires { ⌜ Leeway (now run) i event item ⌝ }
     requires { ⌜ kindOf (held (now nodes) i) ≡ 4 ⌝ }
-    ensures { λ r. ⌜ Onward (now (run .entry)) i event item r ⌝ }
+    ensures { λ r. ⌜ Advances (now (run .entry)) i event item r ⌝ }
     ensures { λ r. ⌜ LaysAt (held (now (nodes .entry))) (now (run .entry)) (now (space .entry)) i event item r (now (space .exit)) ⌝ }
 {
     let mut at = event;
@@ -127,15 +133,15 @@ fn lay_blocks(
     let mut k: usize = 0;
     loop {
         if !another(firsts[i], nodes[i], run, at, k + 1) {
-            return to_if(walk::may_stop(nodes[i], nulls[i - 1], k), at, to);
+            return to_if(bounds::may_have(nodes[i], nulls[i - 1], k), at, to);
         }
         items::put(space, to, i + items::OPENING);
         let Laid::To(a, t) = lay(nodes, nulls, firsts, run, space, i - 1, at, to + 1) else {
-            return Laid::Stuck;
+            return Laid::Unlaid;
         };
         // A block holds at least one event.
         if a == at {
-            return Laid::Stuck;
+            return Laid::Unlaid;
         }
         items::put(space, t, i + items::CLOSING);
         at = a;

@@ -1,7 +1,8 @@
 -- `follow::follow` meets its contract. Assumes nothing.
 use borrow.Author.Needs.{needs}
-use Rattle.states.proofs.Readiness.{admitted-ready}
-use Rattle.follow.proofs.Following.{follows-barred, follows-admitted}
+use Rattle.meaning.specs.Promises.{Follows}
+use Rattle.judge.proofs.Entering.{barred, entered, entered-tables}
+use Rattle.follow.proofs.Following.{follows-entered}
 use Rattle.follow.proofs.follow.Statement.{statement}
 use Rattle.follow.proofs.follow.Tie as tie
 
@@ -14,19 +15,19 @@ enum-known-r c = search needs
 enum-known-n : tie.Need-enum-known-n
 enum-known-n c = search needs
 
+abbrev begun : tie.After-admit → tie.Start
+begun r = r .before .before .before .before .before .before .before .before
+
 go-on-requires : tie.Need-go-on-requires
 go-on-requires c κs =
-    let n = c .before .before .before in
+    let n = c .before .before .before .before .before .before in
     let judged = n .before .before in
-    let a = judged .before .before .before .before .before .args in
-    admitted-ready (a .file .now) (judged .admit .last .1 .0) (judged .admit .result) (n .n .given .0 .0) (judged .admit .ensures) (n .n .given .1)
+    entered-tables (begun judged .args .file .now) _ _ _ _ (judged .admit .result) (judged .admit .ensures) _ _ (n .n .given .1)
 
 returns : tie.Need-returns
 returns c =
     let judged = c .before .before .before in
-    let a = judged .before .before .before .before .before .args in
-    follows-barred (a .file .now) (judged .admit .last .1 .0) (a .state .now) (a .events .now) (judged .admit .result) _ (judged .admit .ensures)
-    (c .before .r .given .1)
+    Follows.refused _ (barred (begun judged .args .file .now) _ _ _ _ (judged .admit .result) (judged .admit .ensures) _ (c .before .r .given .1))
 
 same-length : tie.Need-same-length
 same-length c = search needs
@@ -34,15 +35,9 @@ same-length c = search needs
 returns-2 : tie.Need-returns-2
 returns-2 c =
     let gone = c .before .before in
-    let n = gone .before .before .before .before in
+    let n = gone .before .before .before .before .before .before .before in
     let judged = n .before .before in
-    let a = judged .before .before .before .before .before .args in
-    follows-admitted (a .file .now) (judged .admit .last .1 .0) (judged .admit .result) (n .n .given .0 .0) (judged .admit .ensures) (n .n .given .1)
-    (a .state .now)
-    (a .events .now)
-    _
-    _
-    (gone .go-on .ensures)
+    follows-entered (entered (begun judged .args .file .now) _ _ _ _ (judged .admit .result) (judged .admit .ensures) _ _ (n .n .given .1)) (gone .go-on .ensures)
 
 pub follow-spec : {M : Type 1} → statement M
 follow-spec =

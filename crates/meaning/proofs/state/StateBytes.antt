@@ -115,7 +115,7 @@ line-small b true (repeat-line x lower u few written l) h = omega (arith, low-le
 line-small b false (repeat-line x lower u few written l) h = ⊎-elim (λ w. omega (arith, w .1)) (λ w. omega arith) written
 
 -- so every counter of a part that stands in the table fits
-table-small : (g : ℕ → Node) (n s : ℕ) (e : Expr) → ((i : ℕ) → i < n → InTable (g i)) → s + size e ≤ n → Stands g s e → Small e
+pub table-small : (g : ℕ → Node) (n s : ℕ) (e : Expr) → ((i : ℕ) → i < n → InTable (g i)) → s + size e ≤ n → Stands g s e → Small e
 table-small g n s empty table h p = tt
 table-small g n s (event c) table h p = tt
 table-small g n s (choice l r) table h p = (table-small g n s l table (omega arith) (p .0), table-small g n (s + size l) r table (omega arith) (p .1))
@@ -126,8 +126,6 @@ table-small g n s (repeat b lower upper) table h p =
       table-small g n s b table (omega arith) (p .0),
       subst⁻¹ (λ (x : Upper). most (low (nullable b) lower) x < 65536) (p .1 .2) (line-small (nullable b) (eqb u 65535) line refl),
     )
-
--- ---- repeats among the nodes
 
 -- ---- the numbers of a spot's state
 

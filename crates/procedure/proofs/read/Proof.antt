@@ -1,5 +1,6 @@
 -- `procedure::read` meets its contract: the tests in the order of the table, each by the law that says what it found of the file.
 -- Assumes nothing.
+use mathlib.Core.Path.{subst}
 use mathlib.Core.List.{List}
 use Prim.Native.Nat.{ℕ, _≤_, _<_}
 use native.Mathlib.Omega.{arith}
@@ -7,8 +8,11 @@ use borrow.Author.Needs.{needs}
 use Rattle.meaning.specs.Node.{InTable}
 use Rattle.meaning.specs.File.{Framed, Lettered, Measured, Sized, by-letters, by-measures, by-size}
 use Rattle.procedure.specs.Entry.{held}
+use Rattle.procedure.specs.Listing.{TellsStarts}
+use Rattle.procedure.specs.Repeats.{Counts}
 use Rattle.procedure.proofs.Deciding.{fails, holds}
 use Rattle.procedure.proofs.Openings.{filled, off-table, out-of-order, tested-whole, too-many}
+use Rattle.procedure.proofs.Orders.{starts-ordered}
 use Rattle.procedure.proofs.read.Statement.{statement}
 use Rattle.procedure.proofs.read.Tie as tie
 
@@ -43,6 +47,13 @@ kept m j l = m .before .lowest-off-table .ensures .below j (omega arith)
 
 few-nodes : (m : tie.After-fill) → (1 ≤ n m) × (n m ≤ 512)
 few-nodes m = let e = measured (m .before .before .before) in (omega (arith, e .0, m .before .before .count-of .ensures .0), omega (arith, e .1, m .before .before .count-of .ensures .0))
+
+-- where the order is tested, the entries are filled
+abbrev filled-at : tie.Else5 → tie.After-fill
+filled-at m = m .before .before .before .before .before .before .before
+
+begun : (m : tie.Else5) → TellsStarts (held (entries (filled-at m))) (m .before .lowest-out-of-order .last .1 .0) (n (filled-at m))
+begun m = m .before .lowest-out-of-order .ensures .1 (m .if5 .left)
 
 sized-requires : tie.Need-sized-requires
 sized-requires c κs = search needs
@@ -95,22 +106,34 @@ returns-4 c =
     (found .ensures .here (c .if4 .taken))
 
 lowest-out-of-order-requires : tie.Need-lowest-out-of-order-requires
-lowest-out-of-order-requires c κs = (few-nodes (c .before .before .before .before), kept (c .before))
+lowest-out-of-order-requires c κs =
+    let e = c .before .before in
+    let few = few-nodes (e .before .before .before) in
+    ((few .0, few .1, omega (arith, few .1, c .lowest-out-of-order-arg2 .given .0 .1)), kept e)
 
 returns-5 : tie.Need-returns-5
 returns-5 c =
-    let e = c .before .before .before in
+    let e = c .before .before .before .before in
     let m = e .before .before .before in
-    out-of-order (file m) (entries m) (n m) (framed m) (m .before .before .count-of .ensures .0) (m .fill .ensures) (kept e) (c .before .lowest-out-of-order .ensures) (c .if5 .taken)
+    out-of-order (file m) (entries m) (n m) (framed m) (m .before .before .count-of .ensures .0) (m .fill .ensures) (kept e) (c .before .lowest-out-of-order .ensures .0) (c .if5 .taken)
 
-repeat-over-requires : tie.Need-repeat-over-requires
-repeat-over-requires c κs = few-nodes (c .before .before .before .before .before .before .before) .1
+list-repeats-requires : tie.Need-list-repeats-requires
+list-repeats-requires c κs =
+    let o = c .before .before .before in
+    let few = few-nodes (filled-at o) in
+    ((few .1, omega (arith, few .1, c .before .list-repeats-arg2 .given .0 .1), c .list-repeats-arg3 .given .0 .1), starts-ordered _ _ _ (begun o))
+
+enum-known-over : tie.Need-enum-known-over
+enum-known-over c = search needs
+
+enum-known-count : tie.Need-enum-known-count
+enum-known-count c = search needs
 
 returns-6 : tie.Need-returns-6
 returns-6 c =
-    let o = c .before .before .before in
-    let e = o .before .before .before in
-    let m = e .before .before .before in
+    let l = c .before .before .before in
+    let o = l .before .before .before .before in
+    let m = filled-at o in
     too-many
     (file m)
     (entries m)
@@ -118,17 +141,17 @@ returns-6 c =
     (framed m)
     (m .before .before .count-of .ensures .0)
     (m .fill .ensures)
-    (kept e)
-    (tested-whole (o .before .lowest-out-of-order .ensures) (o .if5 .left))
-    (c .before .repeat-over .result)
-    (c .if6 .taken)
-    (c .before .repeat-over .ensures .here (c .if6 .taken))
+    (kept (o .before .before .before .before))
+    (tested-whole (o .before .lowest-out-of-order .ensures .0) (o .if5 .left))
+    _
+    (subst (Counts (held (entries m)) _ _ (n m)) (c .before .over .given .1) (l .list-repeats .ensures))
 
 returns-7 : tie.Need-returns-7
 returns-7 c =
-    let o = c .before .before .before in
-    let e = o .before .before .before in
-    let m = e .before .before .before in
+    let l = c .before .before .before in
+    let o = l .before .before .before .before in
+    let m = filled-at o in
+    let counts = subst (Counts (held (entries m)) _ _ (n m)) (c .before .count .given .1) (l .list-repeats .ensures) in
     filled
     (file m)
     (entries m)
@@ -136,9 +159,16 @@ returns-7 c =
     (framed m)
     (m .before .before .count-of .ensures .0)
     (m .fill .ensures)
-    (kept e)
-    (tested-whole (o .before .lowest-out-of-order .ensures) (o .if5 .left))
-    (c .before .repeat-over .ensures .few (c .if6 .left))
+    (kept (o .before .before .before .before))
+    (tested-whole (o .before .lowest-out-of-order .ensures .0) (o .if5 .left))
+    _
+    _
+    _
+    _
+    (begun o)
+    (counts .0)
+    (counts .1)
+    (counts .2)
 
 pub read-spec : {M : Type 1} → statement M
 read-spec =
@@ -156,6 +186,8 @@ read-spec =
     returns-4
     lowest-out-of-order-requires
     returns-5
-    repeat-over-requires
+    list-repeats-requires
+    enum-known-over
+    enum-known-count
     returns-6
     returns-7)

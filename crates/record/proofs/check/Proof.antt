@@ -1,21 +1,25 @@
 -- `record::check` meets its contract, by what was read of the file and what was found of the record. Assumes nothing.
 use mathlib.Core.Path.{subst}
-use mathlib.Core.List.{List}
-use Prim.Native.Nat.{ℕ}
 use borrow.Author.Needs.{needs}
-use Rattle.procedure.specs.Entry.{held}
+use Rattle.meaning.specs.Promises.{Checks}
+use Rattle.procedure.specs.declared.Opened.{Opened}
+use Rattle.procedure.specs.declared.Opened.the-variants.{Nodes}
+use Rattle.procedure.specs.Opening.{Opens}
 use Rattle.record.specs.Walk.{RecordOf}
-use Rattle.record.proofs.Answers.{checks-no, checks-refused, checks-yes, some-nodes, whole-stands}
+use Rattle.record.proofs.Answers.{checks-no, checks-yes}
 use Rattle.record.proofs.check.Statement.{statement}
 use Rattle.record.proofs.check.Tie as tie
 
--- ---- where the file was read as n nodes
+-- ---- what was read of the file
 
-abbrev start : tie.After-n → tie.Start
-start c = c .before .before .before .before .before .before
+abbrev start : tie.After-read → tie.Start
+start d = d .before .before .before .before .before .before .before
 
-abbrev nodes : tie.After-n → List ℕ
-nodes c = c .before .before .read .last .1 .0
+abbrev ReadAs : tie.After-read → Opened → Type 0
+ReadAs d = let l = d .read .last .1 in Opens (start d .args .file .now) (l .0) (l .1 .0) (l .1 .1 .0) (l .1 .1 .1 .0)
+
+filled : (m : tie.After-n) → ReadAs (m .before .before) (Nodes (m .n .given .0 .0) (m .n .given .0 .1 .0))
+filled m = subst (ReadAs (m .before .before)) (m .n .given .1) (m .before .before .read .ensures)
 
 read-requires : tie.Need-read-requires
 read-requires c κs = search needs
@@ -28,37 +32,25 @@ enum-known-n c = search needs
 
 is-record-requires : tie.Need-is-record-requires
 is-record-requires c κs =
-    let m = c .before .before in
-    let a = start m in
-    let read = m .before .before .read in (
-      some-nodes (a .args .file .now) (nodes m) (a .args .bytes .now) (read .result) (m .n .given .0 .0) (read .ensures) (m .n .given .1),
-      whole-stands (a .args .file .now) (nodes m) (a .args .bytes .now) (read .result) (m .n .given .0 .0) (read .ensures) (m .n .given .1),
-    )
+    let f = filled (c .before .before .before) in
+    ((f .expr, f .tables .listing), f .tables .empties)
 
 returns : tie.Need-returns
 returns c =
     let d = c .before in
-    let m = d .before .before .before in
-    let a = start m in
-    let read = m .before .before .read in
-    checks-yes (a .args .file .now) (nodes m) (a .args .bytes .now) (read .result) (m .n .given .0 .0) (read .ensures) (m .n .given .1)
-    (subst (RecordOf (held (nodes m)) _ (a .args .bytes .now)) (c .if1 .taken) (d .is-record .ensures))
+    let m = d .before .before .before .before in
+    let b = start (m .before .before) .args .bytes .now in
+    checks-yes (filled m) b (subst (RecordOf _ _ b) (c .if1 .taken) (d .is-record .ensures))
 
 returns-2 : tie.Need-returns-2
-returns-2 c =
-    let m = c .before in
-    let read = m .before .before .read in
-    let a = m .before .before .before .before .before .before in
-    checks-refused (a .args .file .now) (read .last .1 .0) (a .args .bytes .now) (read .result) (m .r .given .0 .0) (read .ensures) (m .r .given .1)
+returns-2 c = let m = c .before in Checks.refused _ (subst (ReadAs (m .before .before)) (m .r .given .1) (m .before .before .read .ensures))
 
 returns-3 : tie.Need-returns-3
 returns-3 c =
     let d = c .before in
-    let m = d .before .before .before in
-    let a = start m in
-    let read = m .before .before .read in
-    checks-no (a .args .file .now) (nodes m) (a .args .bytes .now) (read .result) (m .n .given .0 .0) (read .ensures) (m .n .given .1)
-    (subst (RecordOf (held (nodes m)) _ (a .args .bytes .now)) (c .if1 .left) (d .is-record .ensures))
+    let m = d .before .before .before .before in
+    let b = start (m .before .before) .args .bytes .now in
+    checks-no (filled m) b (subst (RecordOf _ _ b) (c .if1 .left) (d .is-record .ensures))
 
 pub check-spec : {M : Type 1} → statement M
 check-spec =

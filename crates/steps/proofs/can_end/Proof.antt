@@ -9,7 +9,7 @@ use Rattle.steps.proofs.can_end.Statement.{statement}
 use Rattle.steps.proofs.can_end.Tie as tie
 
 climb-requires : tie.Need-climb-requires
-climb-requires c κs = (c .pre .1 .1 .few, (c .pre .0, rises (c .pre .1 .1)))
+climb-requires c κs = (c .pre .1 .1 .listing .few, (c .pre .0, rises (c .pre .1 .1)))
 
 enum-told : tie.Need-enum-told
 enum-told c = search needs
@@ -19,7 +19,7 @@ returns c =
     let climbed = c .before .before in
     let a = climbed .before .args in
     λ e p pl here m.
-    end-no (a .nodes .now) (a .plan .now) (a .counts .now) (a .n) (a .n) (a .at) _ e p pl here m (climbed .climb .ensures) (past (le-refl (a .n))) refl
+    end-no (a .nodes .now) (a .starts .now) (a .nulls .now) (a .plan .now) (a .counts .now) (a .n) (a .n) (a .at) _ e p pl here m (climbed .climb .ensures) (past (le-refl (a .n))) refl
     (at-not-ends (c .enum-told .given .1))
 
 enum-told-2 : tie.Need-enum-told-2
@@ -30,7 +30,7 @@ returns-2 c =
     let climbed = c .before .before in
     let a = climbed .before .args in
     λ e p pl here m.
-    end-yes (a .nodes .now) (a .plan .now) (a .counts .now) (a .n) (a .n) (a .at) _ e p pl here m (climbed .climb .ensures) (past (le-refl (a .n))) refl
+    end-yes (a .nodes .now) (a .starts .now) (a .nulls .now) (a .plan .now) (a .counts .now) (a .n) (a .n) (a .at) _ e p pl here m (climbed .climb .ensures) (past (le-refl (a .n))) refl
     (c .enum-told2 .given .1)
 
 enum-told-3 : tie.Need-enum-told-3
@@ -41,7 +41,7 @@ returns-3 c =
     let climbed = c .before .before in
     let a = climbed .before .args in
     λ e p pl here m.
-    end-no (a .nodes .now) (a .plan .now) (a .counts .now) (a .n) (a .n) (a .at) _ e p pl here m (climbed .climb .ensures) (past (le-refl (a .n))) refl
+    end-no (a .nodes .now) (a .starts .now) (a .nulls .now) (a .plan .now) (a .counts .now) (a .n) (a .n) (a .at) _ e p pl here m (climbed .climb .ensures) (past (le-refl (a .n))) refl
     (stuck-not-ends (c .enum-told3 .given .1))
 
 pub can-end-spec : {M : Type 1} → statement M

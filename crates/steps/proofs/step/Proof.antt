@@ -8,7 +8,7 @@ use Rattle.steps.proofs.step.Statement.{statement}
 use Rattle.steps.proofs.step.Tie as tie
 
 climb-requires : tie.Need-climb-requires
-climb-requires c κs = let start = c .before in (start .pre .1 .1 .1 .few, (start .pre .0, rises (start .pre .1 .1 .1)))
+climb-requires c κs = let start = c .before in (start .pre .1 .1 .1 .listing .few, (start .pre .0, rises (start .pre .1 .1 .1)))
 
 enum-known-x : tie.Need-enum-known-x
 enum-known-x c = search needs
@@ -19,7 +19,7 @@ turn-requires c κs =
     let start = climbed .before .before in
     let up = rises (start .pre .1 .1 .1) in
     let turn = climbs-at up (omega (arith, up (start .args .at) (start .pre .0) .up)) (climbed .climb .ensures) (c .before .before .x .given .1) in
-    let few = start .pre .1 .1 .1 .few in
+    let few = start .pre .1 .1 .1 .listing .few in
     (turn .0, (omega arith, (omega arith, λ i h. up i (omega arith))))
 
 returns : tie.Need-returns
@@ -27,7 +27,7 @@ returns c =
     let climbed = c .before .before .before .before .before in
     let a = climbed .before .before .args in
     λ e p pl k here m.
-    step-turns (a .nodes .now) (a .plan .now) (a .counts .now) (a .n) (a .q) (a .at) _ e p pl here m (climbed .climb .ensures) _ _ k
+    step-turns (a .nodes .now) (a .starts .now) (a .nulls .now) (a .plan .now) (a .counts .now) (a .n) (a .q) (a .at) _ e p pl here m (climbed .climb .ensures) _ _ k
     (c .before .before .before .x .given .1)
     (c .turn .ensures)
 
@@ -39,7 +39,7 @@ returns-2 c =
     let climbed = c .before .before in
     let a = climbed .before .before .args in
     λ e p pl k here m.
-    step-stays (a .nodes .now) (a .plan .now) (a .counts .now) (a .n) (a .q) (a .at) _ e p pl here m (climbed .climb .ensures) k
+    step-stays (a .nodes .now) (a .starts .now) (a .nulls .now) (a .plan .now) (a .counts .now) (a .n) (a .q) (a .at) _ e p pl here m (climbed .climb .ensures) k
     (inl (c .enum-told .given .1))
 
 enum-told-2 : tie.Need-enum-told-2
@@ -50,7 +50,7 @@ returns-3 c =
     let climbed = c .before .before in
     let a = climbed .before .before .args in
     λ e p pl k here m.
-    step-stays (a .nodes .now) (a .plan .now) (a .counts .now) (a .n) (a .q) (a .at) _ e p pl here m (climbed .climb .ensures) k
+    step-stays (a .nodes .now) (a .starts .now) (a .nulls .now) (a .plan .now) (a .counts .now) (a .n) (a .q) (a .at) _ e p pl here m (climbed .climb .ensures) k
     (inr (c .enum-told2 .given .1))
 
 pub step-spec : {M : Type 1} → statement M

@@ -1,8 +1,12 @@
 -- `write::write` meets its contract, by what becomes of the file and then of the run. Assumes nothing.
 use borrow.Author.Needs.{needs}
-use Rattle.write.proofs.Writing.{entered, writes-barred}
+use Rattle.meaning.specs.Promises.{Writes}
+use Rattle.judge.proofs.Entering.{barred, entered, entered-tables}
 use Rattle.write.proofs.write.Statement.{statement}
 use Rattle.write.proofs.write.Tie as tie
+
+abbrev begun : tie.After-admit → tie.Start
+begun d = d .before .before .before .before .before .before .before .before
 
 admit-requires : tie.Need-admit-requires
 admit-requires c κs = search needs
@@ -15,17 +19,15 @@ enum-known-n c = search needs
 
 write-run-requires : tie.Need-write-run-requires
 write-run-requires c κs =
-    let n = c .before .before .before in
+    let n = c .before .before .before .before in
     let judged = n .before .before in
-    let f = judged .before .before .before .before .before .args .file .now in
-    (f, entered f (judged .admit .last .1 .0) (judged .admit .result) (n .n .given .0 .0) (judged .admit .ensures) (n .n .given .1))
+    let t = entered-tables (begun judged .args .file .now) _ _ _ _ (judged .admit .result) (judged .admit .ensures) _ _ (n .n .given .1) in
+    ((t .0, t .1 .listing), t .1 .empties)
 
 returns : tie.Need-returns
 returns c =
     let judged = c .before .before .before in
-    let a = judged .before .before .before .before .before .args in
-    writes-barred (a .file .now) (judged .admit .last .1 .0) (a .run .now) (a .space .now) (judged .admit .result) _ (judged .admit .ensures)
-    (c .before .r .given .1)
+    Writes.refused _ (barred (begun judged .args .file .now) _ _ _ _ (judged .admit .result) (judged .admit .ensures) _ (c .before .r .given .1))
 
 same-length : tie.Need-same-length
 same-length c = search needs
@@ -33,11 +35,10 @@ same-length c = search needs
 returns-2 : tie.Need-returns-2
 returns-2 c =
     let written = c .before .before in
-    let n = written .before .before .before .before in
+    let n = written .before .before .before .before .before in
     let judged = n .before .before in
-    let f = judged .before .before .before .before .before .args .file .now in
-    written .write-run .ensures f
-    (entered f (judged .admit .last .1 .0) (judged .admit .result) (n .n .given .0 .0) (judged .admit .ensures) (n .n .given .1))
+    let o = entered (begun judged .args .file .now) _ _ _ _ (judged .admit .result) (judged .admit .ensures) _ _ (n .n .given .1) in
+    written .write-run .ensures _ (o .filled .expr) (o .admitted) (o .filled .tables .listing)
 
 pub write-spec : {M : Type 1} → statement M
 write-spec =

@@ -1,15 +1,18 @@
 -- `write::write_run` meets its contract, by what the two walks lay of the run. Assumes nothing.
-use mathlib.Core.Path.{sym, subst}
+use mathlib.Core.Path.{_≡_, sym, subst}
 use mathlib.Core.List.{List}
-use Prim.Native.Nat.{ℕ, _-_, _≤_}
+use Prim.Native.Nat.{ℕ, _+_, _-_, _≤_}
 use native.Mathlib.Omega.{arith}
 use borrow.Author.Needs.{needs}
 use lib.ListN.{length}
 use Rattle.procedure.specs.Entry.{held}
+use Rattle.procedure.specs.Listing.{TellsNulls}
+use Rattle.procedure.proofs.Nodes.{one-of}
+use Rattle.procedure.proofs.Nodes.{listing-some}
 use Rattle.write.specs.declared.lay.Laid.the-variants.{To}
-use Rattle.write.specs.Lay.{Onward, Ready}
+use Rattle.write.specs.Lay.{Advances, TellsFirsts}
 use Rattle.write.proofs.Laid.{Short}
-use Rattle.write.proofs.Writing.{counted, few-items, kept, ordered, walk-ready, walk-room, writes-all, writes-incomplete, writes-no-room, writes-too-long}
+use Rattle.write.proofs.Writing.{few-items, walk-leeway, writes-all, writes-incomplete, writes-no-room, writes-too-long}
 use Rattle.write.proofs.write_run.Statement.{statement}
 use Rattle.write.proofs.write_run.Tie as tie
 
@@ -28,30 +31,36 @@ short : (m : tie.Else1) → length (run m) ≤ 65536
 short m = omega (arith, m .if1 .left)
 
 abbrev measured : tie.After-none → tie.Else1
-measured m = m .before .before .before .before .before .before
+measured m = m .before .before .before .before .before
 
-ready : (m : tie.After-none) → let a = begun (measured m) in
-    Ready (held (a .args .nodes .now)) (m .before .before .before .before .before .nulls-of .result) (m .before .before .before .firsts-of .result) (a .args .n - 1)
-ready m =
-    walk-ready (begun (measured m) .pre .1) _ _ (m .before .before .before .before .before .nulls-of .ensures) (m .before .before .before .firsts-of .ensures)
+few : (a : tie.Start) → (1 ≤ a .args .n) × (a .args .n ≤ 512)
+few a = let l = a .pre .0 .1 in (listing-some l, l .few)
 
 returns : tie.Need-returns
-returns c = let a = c .before .before .before in λ f o. writes-too-long o (a .args .run .now) (a .args .space .now) (omega (arith, c .if1 .taken))
+returns c = let a = c .before .before .before in λ f x o l. writes-too-long o l (a .args .run .now) (a .args .space .now) (omega (arith, c .if1 .taken))
 
-nulls-of-requires : tie.Need-nulls-of-requires
-nulls-of-requires c κs = let o = begun c .pre .1 in (counted o .1, ordered o)
+slice-aggregate-fill-firsts : tie.Need-slice-aggregate-fill-firsts
+slice-aggregate-fill-firsts c = search needs
 
-firsts-of-requires : tie.Need-firsts-of-requires
-firsts-of-requires c κs = let o = begun (c .before .before) .pre .1 in (counted o .1, (ordered o, (kept o, c .before .nulls-of .ensures)))
+fill-firsts-requires : tie.Need-fill-firsts-requires
+fill-firsts-requires c κs = let a = begun (c .before) in (few a .1, (a .pre .0, a .pre .1))
 
 slice-aggregate-lay : tie.Need-slice-aggregate-lay
 slice-aggregate-lay c = search needs
 
 sub-lay : tie.Need-sub-lay
-sub-lay c = counted (begun (measured c) .pre .1) .0
+sub-lay c = few (begun (measured c)) .0
 
 lay-requires : tie.Need-lay-requires
-lay-requires c κs = let m = measured c in (ready c, walk-room (begun m .pre .1) (run m) (short m))
+lay-requires c κs =
+    let m = measured c in
+    let a = begun m in
+    let n = a .args .n in
+    let some = few a .0 in
+    let all : n ≡ n - 1 + 1 = omega arith in (
+      one-of (a .pre .0 .1) (n - 1) (omega arith),
+      (subst (TellsNulls (held (a .args .nodes .now)) _) all (a .pre .1), (subst (TellsFirsts (held (a .args .nodes .now)) _) all (c .before .before .before .fill-firsts .ensures), walk-leeway (run m) n (few a .1) (short m))),
+    )
 
 enum-known-events : tie.Need-enum-known-events
 enum-known-events c = search needs
@@ -65,7 +74,7 @@ returns-2 : tie.Need-returns-2
 returns-2 c =
     let laid = c .before .before .before in
     let m = measured (laid .before) in
-    λ f o. writes-incomplete o (run m) (short m) _ _ (space m) (laid .lay .result) (laid .lay .ensures .1) (laid .lay .ensures .0)
+    λ f x o l. writes-incomplete o l (run m) (short m) _ _ (space m) (laid .lay .result) (laid .lay .ensures .1) (laid .lay .ensures .0)
     (subst (Short (run m)) (sym (c .enum-told .given .1)) tt)
 
 returns-3 : tie.Need-returns-3
@@ -73,7 +82,7 @@ returns-3 c =
     let e = c .before .before in
     let laid = e .before .before .before in
     let m = measured (laid .before) in
-    λ f o. writes-incomplete o (run m) (short m) _ _ (space m) (laid .lay .result) (laid .lay .ensures .1) (laid .lay .ensures .0)
+    λ f x o l. writes-incomplete o l (run m) (short m) _ _ (space m) (laid .lay .result) (laid .lay .ensures .1) (laid .lay .ensures .0)
     (subst (Short (run m)) (sym (e .events .given .1)) (c .if2 .taken))
 
 -- ---- the first walk goes to the end
@@ -96,27 +105,24 @@ events c = told c .events .given .0 .0
 abbrev items : tie.Else2 → ℕ
 items c = told c .events .given .0 .1 .0
 
-onward : (c : tie.Else2) → Onward (run (before c)) (root c) 0 0 (To (events c) (items c))
-onward c = subst (Onward (run (before c)) (root c) 0 0) (told c .events .given .1) (first c .lay .ensures .0)
+advances : (c : tie.Else2) → Advances (run (before c)) (root c) 0 0 (To (events c) (items c))
+advances c = subst (Advances (run (before c)) (root c) 0 0) (told c .events .given .1) (first c .lay .ensures .0)
 
 mul-bytes : tie.Need-mul-bytes
-mul-bytes c = let m = before c in omega (arith, few-items (begun m .pre .1) (run m) (short m) (events c) (items c) (onward c))
+mul-bytes c = let m = before c in omega (arith, few-items (run m) (begun m .args .n) (events c) (items c) (few (begun m) .1) (short m) (advances c))
 
 returns-4 : tie.Need-returns-4
 returns-4 c =
     let d = c .before in
     let m = before d in
-    λ f o. writes-no-room o (run m) (short m) _ _ (first d .lay .result) (events d) (items d) (first d .lay .ensures .1) (told d .events .given .1) (d .if2 .left)
+    λ f x o l. writes-no-room o l (run m) (short m) _ _ (first d .lay .result) (events d) (items d) (first d .lay .ensures .1) (told d .events .given .1) (d .if2 .left)
     (space m) (omega (arith, c .if3 .taken))
 
 sub-lay-2 : tie.Need-sub-lay-2
-sub-lay-2 c = counted (begun (before (c .before .before .before .before)) .pre .1) .0
+sub-lay-2 c = few (begun (before (c .before .before .before))) .0
 
 lay-requires-2 : tie.Need-lay-requires-2
-lay-requires-2 c κs =
-    let d = c .before .before .before .before in
-    let m = before d in
-    (ready (first d .before), walk-room (begun m .pre .1) (run m) (short m))
+lay-requires-2 c κs = lay-requires (first (c .before .before .before) .before) κs
 
 same-length : tie.Need-same-length
 same-length c = search needs
@@ -124,10 +130,10 @@ same-length c = search needs
 returns-5 : tie.Need-returns-5
 returns-5 c =
     let second = c .before .before in
-    let e = second .before .before .before .before in
+    let e = second .before .before .before in
     let d = e .before in
     let m = before d in
-    λ f o. writes-all o (run m) (short m) _ _ (first d .lay .result) (events d) (items d) (first d .lay .ensures .1) (told d .events .given .1) (d .if2 .left)
+    λ f x o l. writes-all o l (run m) (short m) _ _ (first d .lay .result) (events d) (items d) (first d .lay .ensures .1) (told d .events .given .1) (d .if2 .left)
     (space m) _ (second .lay2 .result) (omega (arith, e .if3 .left)) (second .lay2 .ensures .1) (second .lay2 .ensures .0)
 
 pub write-run-spec : {M : Type 1} → statement M
@@ -135,8 +141,8 @@ write-run-spec =
     tie.close
     (tie.spec
     returns
-    nulls-of-requires
-    firsts-of-requires
+    slice-aggregate-fill-firsts
+    fill-firsts-requires
     slice-aggregate-lay
     sub-lay
     lay-requires

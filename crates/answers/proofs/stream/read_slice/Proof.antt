@@ -1,7 +1,7 @@
 -- `answers::stream::read_slice` meets its contract: what was read lies at the start of the buffer. Assumes nothing.
-use borrow.Author.Needs.{needs}
 use native.Mathlib.Omega.{arith}
 use lib.ListN.{length-append}
+use borrow.Author.Needs.{needs}
 use Rattle.answers.proofs.Laws.{counts}
 use Rattle.answers.proofs.stream.read_slice.Statement.{statement}
 use Rattle.answers.proofs.stream.read_slice.Tie as tie
@@ -15,8 +15,11 @@ read-full-requires c κs = search needs
 returns : tie.Need-returns
 returns c = search needs
 
-length-in-requires : tie.Need-length-in-requires
-length-in-requires c κs = search needs
+slice-aggregate-four-at : tie.Need-slice-aggregate-four-at
+slice-aggregate-four-at c = search needs
+
+four-at-requires : tie.Need-four-at-requires
+four-at-requires c κs = search needs
 
 sub-read-full : tie.Need-sub-read-full
 sub-read-full c = search needs
@@ -46,7 +49,8 @@ read-slice-spec =
     slice-aggregate-read-full
     read-full-requires
     returns
-    length-in-requires
+    slice-aggregate-four-at
+    four-at-requires
     sub-read-full
     part-read-full-start
     part-read-full-end

@@ -4,10 +4,10 @@ use Prim.Native.Nat.{ℕ, _≤_}
 use native.Mathlib.Omega.{arith}
 use borrow.Author.Needs.{needs}
 use Rattle.meaning.specs.Expr.{Expr}
+use Rattle.procedure.specs.Listing.{Tables}
 use Rattle.plan.specs.Plan.{Plans}
-use Rattle.states.specs.Valid.{ReadOf}
-use Rattle.states.specs.Ready.{Ready}
-use Rattle.states.proofs.Readiness.{read-below, read-long}
+use Rattle.states.specs.Standing.{ReadOf}
+use Rattle.states.proofs.Readiness.{read-below, read-long, tables-repeats}
 use Rattle.follow.proofs.Following.{ran-long, went-nowhere, went-on}
 use Rattle.follow.proofs.batch.go_on.Statement.{statement}
 use Rattle.follow.proofs.batch.go_on.Tie as tie
@@ -16,15 +16,12 @@ fill-plan-requires : tie.Need-fill-plan-requires
 fill-plan-requires c κs = search needs
 
 read-state-requires : tie.Need-read-state-requires
-read-state-requires c κs =
-    let fill = c .before .before .before in
-    let ready = fill .before .before .before .before .pre in
-    ((ready .0, fill .fill-plan .ensures (ready .0) (ready .1 .stands) (ready .1 .sized)), search needs)
+read-state-requires c κs = search needs
 
 -- ---- what is known once the state is read
 
 abbrev begun : tie.After-read-state → tie.Start
-begun r = r .before .before .before .before .before .before .before .before
+begun r = r .before .before .before .before .before .before .before
 
 abbrev nodes : tie.After-read-state → List ℕ
 nodes r = begun r .args .nodes .now
@@ -35,17 +32,23 @@ bytes r = begun r .args .bytes .now
 abbrev events : tie.After-read-state → List ℕ
 events r = begun r .args .events .now
 
-abbrev table : tie.After-read-state → List ℕ
-table r = r .before .before .before .before .fill-plan .last .1 .0
+abbrev plan : tie.After-read-state → List ℕ
+plan r = r .before .before .before .fill-plan .last .1 .1 .0
 
 abbrev counts : tie.After-read-state → List ℕ
-counts r = r .read-state .last .1 .1 .1 .1 .0
+counts r = r .read-state .last .1 .1 .1 .1 .1 .1 .1 .0
 
-planned : (r : tie.After-read-state) (e : Expr) → Ready (nodes r) (begun r .args .n) e → Plans (nodes r) (table r) (begun r .args .n) e
-planned r e w = r .before .before .before .before .fill-plan .ensures e (w .stands) (w .sized)
+-- the tables have the expression
+abbrev Has : tie.After-read-state → Expr → Type 0
+Has r e =
+    Tables (nodes r) (begun r .args .starts .now) (begun r .args .nulls .now) (begun r .args .repeats .now) (begun r .args .n) (begun r .args .r) e
 
-told : (r : tie.After-read-state) (e : Expr) → Ready (nodes r) (begun r .args .n) e → ReadOf e (bytes r) (counts r) (r .read-state .result)
-told r e w = r .read-state .ensures e (planned r e w) (w .bounded) (w .small)
+planned : (r : tie.After-read-state) (e : Expr) → Has r e
+    → Plans (nodes r) (begun r .args .starts .now) (begun r .args .nulls .now) (plan r) (begun r .args .n) e
+planned r e w = r .before .before .before .fill-plan .ensures _ _ e w
+
+told : (r : tie.After-read-state) (e : Expr) → Has r e → ReadOf e (bytes r) (counts r) (r .read-state .result)
+told r e w = r .read-state .ensures e w
 
 enum-told : tie.Need-enum-told
 enum-told c = search needs
@@ -59,7 +62,7 @@ came-below c =
     let r = c .before .before in
     let ready = begun r .pre in
     let e = ready .0 in
-    read-below e (bytes r) (counts r) _ _ _ (ready .1 .sized) (told r e (ready .1)) (c .node .given .1)
+    read-below e (bytes r) (counts r) _ _ _ (ready .1 .listing .sized) (told r e (ready .1)) (c .node .given .1)
 
 run-requires : tie.Need-run-requires
 run-requires c κs =
@@ -89,7 +92,7 @@ encode-requires c κs =
       read-long e (bytes r) (counts r) _ _ came same,
       (
         ran-long e (bytes r) (counts r) (events r) _ _ _ _ _ came same (λ k s. run-on k (planned r e (ready .1)) s),
-        omega (arith, ran .run .ensures .0, ready .1 .few),
+        omega (arith, ran .run .ensures .0, ready .1 .listing .few),
       ),
     )
 
@@ -112,7 +115,7 @@ returns-2 c =
     let node = ran .before .before .before .before in
     let r = node .before .before in
     λ e w.
-    went-on e (bytes r) (events r) (counts r) (ran .run .last .1 .1 .1 .1 .0) _ _ _ _ _ _ w (told r e w) (node .node .given .1)
+    went-on e (bytes r) (events r) (counts r) (ran .run .last .1 .1 .1 .1 .1 .1 .0) _ _ _ _ _ _ (omega (arith, tables-repeats w, w .few-repeats)) (told r e w) (node .node .given .1)
     (λ k s. ran .run .ensures .1 .1 e k (planned r e w) s)
     (λ k s. judged .verdict .ensures e k (planned r e w) s)
     (coded .encode .ensures)

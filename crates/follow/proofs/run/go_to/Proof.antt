@@ -5,13 +5,15 @@ use Rattle.follow.proofs.run.go_to.Statement.{statement}
 use Rattle.follow.proofs.run.go_to.Tie as tie
 
 start-requires : tie.Need-start-requires
-start-requires c κs = search needs
+start-requires c κs =
+    let start = c .before .before in
+    (start .pre .1 .0, (start .args .nulls .now, start .pre .1 .1 .0, start .pre .1 .1 .1))
 
 returns : tie.Need-returns
 returns c =
     let is = c .before .before in
     let a = is .before .args in
-    λ e k pl kind s. from-start e k (a .node) (a .q) _ (a .counts .now) _ (is .if1 .taken) s (λ u. c .start .ensures e pl kind u)
+    λ e k pl kind s. from-start e k (a .node) (a .q) _ (a .counts .now) _ (is .if1 .taken) s (λ u. c .start .ensures (a .nulls .now) e pl kind u)
 
 sub-step : tie.Need-sub-step
 sub-step c = search needs

@@ -9,25 +9,25 @@ use lib.ListN.{getD}
 use Rattle.meaning.specs.Expr.{Expr}
 use Rattle.meaning.specs.theory.Spots.{Spot}
 use Rattle.plan.specs.Plan.{Plans}
-use Rattle.states.specs.Valid.{AtSpot}
+use Rattle.states.specs.Standing.{AtSpot}
 use Rattle.follow.proofs.Running.{Passed, passed-none, passed-more, nexted-goes, nexted-stays, wanted-kind}
 use Rattle.follow.proofs.run.next.Statement.{statement}
 use Rattle.follow.proofs.run.next.Tie as tie
 
 abbrev Inv-loop : tie.InvT-loop
-Inv-loop nodes plan n node counts₀ code wanted q₀ counts q =
+Inv-loop nodes starts nulls plan n node counts₀ code wanted q₀ counts q =
     (q ≤ n)
     × (q < n → getD nodes q 0 ≡ wanted)
-    × ((e : Expr) (k : Spot e) → Plans nodes plan n e → AtSpot e k node counts₀ → Passed nodes e k wanted q counts₀ counts)
+    × ((e : Expr) (k : Spot e) → Plans nodes starts nulls plan n e → AtSpot e k node counts₀ → Passed nodes e k wanted q counts₀ counts)
 
 abbrev μ-loop : tie.MeasureT-loop
-μ-loop nodes plan n node counts₀ code wanted q₀ counts q = n - q
+μ-loop nodes starts nulls plan n node counts₀ code wanted q₀ counts q = n - q
 
 event-of-requires : tie.Need-event-of-requires Inv-loop μ-loop
 event-of-requires c κs = search needs
 
 find-requires : tie.Need-find-requires Inv-loop μ-loop
-find-requires c κs = (c .before .pre .1 .1 .few, omega arith)
+find-requires c κs = (c .before .pre .1 .1 .listing .few, omega arith)
 
 loop-holds : tie.Need-loop-holds Inv-loop μ-loop
 loop-holds c =
@@ -54,7 +54,7 @@ returns c =
     let here = at .loop .inv .1 below in (
       omega arith,
       λ e k pl s.
-          nexted-goes (a .nodes .now) (a .plan .now) (a .n) e k (a .code) (wanted .event-of .result) (at .loop .q) _ (a .counts .now) (at .loop .counts) _ pl
+          nexted-goes (a .nodes .now) (a .n) e k (a .code) (wanted .event-of .result) (at .loop .q) _ (a .counts .now) (at .loop .counts) _ (pl .listing)
           (event .1) (event .0) below here (c .if1 .taken)
           (c .before .go-to .ensures e k pl (wanted-kind (a .nodes .now) (a .code) (wanted .event-of .result) (at .loop .q) (event .1) (event .0) here)
           (subst (λ (x : List ℕ). AtSpot e k (a .node) x) (at .loop .inv .2 e k pl s .same) s)),
@@ -66,7 +66,7 @@ add-find c = omega arith
 find-requires-2 : tie.Need-find-requires-2 Inv-loop μ-loop
 find-requires-2 c κs =
     let at = c .before .before .before .before in
-    (at .before .before .before .pre .1 .1 .few, omega arith)
+    (at .before .before .before .pre .1 .1 .listing .few, omega arith)
 
 loop-less : tie.Need-loop-less Inv-loop μ-loop
 loop-less c = omega (arith, c .find2 .ensures .above, c .find2 .ensures .within)
@@ -98,7 +98,7 @@ returns-2 c =
     let a = wanted .before .args in (
       omega arith,
       λ e k pl s.
-          nexted-stays (a .nodes .now) (a .plan .now) (a .n) e k (a .code) (wanted .event-of .result) (at .loop .q) (a .counts .now) _ pl
+          nexted-stays (a .nodes .now) (a .n) e k (a .code) (wanted .event-of .result) (at .loop .q) (a .counts .now) _ (pl .listing)
           (wanted .event-of .ensures .0)
           (c .loop-test .left)
           (at .loop .inv .2 e k pl s),

@@ -8,17 +8,17 @@ use lib.ListN.{length}
 use Rattle.meaning.specs.Expr.{Expr}
 use Rattle.meaning.specs.theory.Spots.{Spot}
 use Rattle.plan.specs.Plan.{Plans}
-use Rattle.states.specs.Valid.{AtSpot}
+use Rattle.states.specs.Standing.{AtSpot}
 use Rattle.follow.proofs.Running.{Along, along-none, along-more, ran-stuck, ran-all}
 use Rattle.follow.proofs.run.run.Statement.{statement}
 use Rattle.follow.proofs.run.run.Tie as tie
 
 abbrev Inv-loop : tie.InvT-loop
-Inv-loop nodes plan n node counts₀ events at₀ taken₀ counts at taken =
-    (at ≤ n) × (taken ≤ length events) × ((e : Expr) (k : Spot e) → Plans nodes plan n e → AtSpot e k node counts₀ → Along e k events taken at counts)
+Inv-loop nodes starts nulls plan n node counts₀ events at₀ taken₀ counts at taken =
+    (at ≤ n) × (taken ≤ length events) × ((e : Expr) (k : Spot e) → Plans nodes starts nulls plan n e → AtSpot e k node counts₀ → Along e k events taken at counts)
 
 abbrev μ-loop : tie.MeasureT-loop
-μ-loop nodes plan n node counts₀ events at₀ taken₀ counts at taken = length events - taken
+μ-loop nodes starts nulls plan n node counts₀ events at₀ taken₀ counts at taken = length events - taken
 
 loop-holds : tie.Need-loop-holds Inv-loop μ-loop
 loop-holds c = (c .before .pre .0, omega arith, λ e k pl s. along-none e k _ _ _ s)

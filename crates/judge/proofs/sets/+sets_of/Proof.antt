@@ -1,16 +1,14 @@
 -- The proof of the cycle of calls {sets_of}: the measure is the node number. Assumes nothing.
-use mathlib.Core.Path.{_≡_, sym, _∙_}
 use Prim.Native.Nat.{ℕ, _-_, _≤_, _<_}
 use native.Mathlib.Omega.{arith}
 use borrow.Author.Needs.{needs}
 use borrow.Fn.Kinds.{In}
 use borrow.Fn.PlainCycle.{Measures, is, falls, and}
-use Rattle.meaning.specs.Node.{Node, InOrder}
+use Rattle.meaning.specs.Node.{Node}
 use Rattle.procedure.specs.Entry.{held}
-use Rattle.procedure.proofs.Nodes.{bounds-kept}
-use Rattle.judge.specs.Sets.{TableUpTo}
+use Rattle.procedure.proofs.Nodes.{one-in-table, one-small}
 use Rattle.judge.proofs.Leaves.{leaf-at}
-use Rattle.judge.proofs.Standing.{Child, choice-at, last-in-order, left-in-order, repeat-at, sequence-at, table-here}
+use Rattle.judge.proofs.Standing.{Below, choice-at, last-below, left-below, repeat-at, sequence-at}
 use Rattle.judge.proofs.sets.sets_of.Reads as sets-of
 use Rattle.judge.proofs.sets.sets_of.Kinds as sets-of-kinds
 use Rattle.judge.proofs.sets.+sets_of.Lts-sets_of as sets-of-lts
@@ -55,7 +53,7 @@ sets-of-mul-node : (t : ℕ) → sets-of-lts.Need-mul-node (calls t) (sets-of-at
 sets-of-mul-node t c = omega arith
 
 sets-of-element-copy-out-node : (t : ℕ) → sets-of-lts.Need-element-copy-out-node (calls t) (sets-of-at t) sets-of.Post
-sets-of-element-copy-out-node t c = c .pre .1 .0
+sets-of-element-copy-out-node t c = one-small (c .args .i) (c .pre .1)
 
 sets-of-kind-of-requires : (t : ℕ) → sets-of-lts.Need-kind-of-requires (calls t) (sets-of-at t) sets-of.Post
 sets-of-kind-of-requires t c κs = search needs
@@ -67,7 +65,7 @@ held-by c = held (c .args .nodes .now)
 sets-of-leaf-sets-requires : (t : ℕ) → sets-of-lts.Need-leaf-sets-requires (calls t) (sets-of-at t) sets-of.Post
 sets-of-leaf-sets-requires t c κs =
     let start = c .before .before .before in
-    (omega (arith, c .before .kind-of .ensures), table-here (held-by start) (start .args .i) (start .pre .1 .1 .1))
+    (omega (arith, c .before .kind-of .ensures), one-in-table (start .args .i) (start .pre .1))
 
 sets-of-returns : (t : ℕ) → sets-of-lts.Need-returns (calls t) (sets-of-at t) sets-of.Post
 sets-of-returns t c =
@@ -76,29 +74,19 @@ sets-of-returns t c =
 
 -- the node before, where the node is known to be no leaf
 sets-of-last : (t : ℕ) (c : sets-of-lts.Else1 (calls t) (sets-of-at t) sets-of.Post)
-    → Child (held-by (c .before .before .before)) (c .before .before .before .args .i) (c .before .before .before .args .i - 1)
-    × (1 ≤ c .before .before .before .args .i)
+    → Below (c .before .before .before .args .nodes .now) t (c .before .before .before .args .i - 1) × (1 ≤ c .before .before .before .args .i)
 sets-of-last t c =
     let start = c .before .before .before in
-    last-in-order (held-by start) (start .args .i) (c .before .kind-of .result) (c .before .kind-of .ensures) (start .pre .1 .1 .0) (start .pre .1 .1 .1) (c .if1 .left)
+    last-below (start .args .nodes .now) t (start .args .i) (c .before .kind-of .result) (start .pre .0) (c .before .kind-of .ensures) (start .pre .1) (c .if1 .left)
 
 sets-of-sub-sets-of : (t : ℕ) → sets-of-lts.Need-sub-sets-of (calls t) (sets-of-at t) sets-of.Post
 sets-of-sub-sets-of t c = sets-of-last t c .1
 
--- a call at a child
-at-child : (g : ℕ → Node) (t i j : ℕ) → i ≡ t → i < 512 → Child g i j → (j < t) × ((j < 512) × (InOrder g j × TableUpTo g j))
-at-child g t i j h l c = let m = c .0 in (omega arith, (omega arith, (c .1, c .2)))
-
 sets-of-sets-of-requires : (t : ℕ) → sets-of-lts.Need-sets-of-requires (calls t) (sets-of-at t) sets-of.Post
-sets-of-sets-of-requires t c κs =
-    let start = c .before .before .before in
-    at-child (held-by start) t (start .args .i) (start .args .i - 1) (start .pre .0) (start .pre .1 .0) (sets-of-last t c .0)
+sets-of-sets-of-requires t c κs = sets-of-last t c .0
 
 sets-of-repeat-sets-requires : (t : ℕ) → sets-of-lts.Need-repeat-sets-requires (calls t) (sets-of-at t) sets-of.Post
-sets-of-repeat-sets-requires t c κs =
-    let kind = c .before .before .before in
-    let start = kind .before .before in
-    bounds-kept (held-by start (start .args .i)) (table-here (held-by start) (start .args .i) (start .pre .1 .1 .1)) (sym (kind .kind-of .ensures) ∙ c .if2 .taken) .0
+sets-of-repeat-sets-requires t c κs = search needs
 
 sets-of-returns-2 : (t : ℕ) → sets-of-lts.Need-returns-2 (calls t) (sets-of-at t) sets-of.Post
 sets-of-returns-2 t c =
@@ -116,9 +104,8 @@ sets-of-sets-of-requires-2 t c κs =
     let branch = c .before .before .before in
     let kind = branch .before in
     let start = kind .before .before in
-    at-child (held-by start) t (start .args .i) (c .left-of .result) (start .pre .0) (start .pre .1 .0)
-    (left-in-order (held-by start) (start .args .i) (kind .kind-of .result) (kind .kind-of .ensures) (c .left-of .result) (c .left-of .ensures)
-    (start .pre .1 .1 .0) (start .pre .1 .1 .1) (branch .if1 .left) (c .before .if2 .left))
+    left-below (start .args .nodes .now) t (start .args .i) (kind .kind-of .result) (start .pre .0) (kind .kind-of .ensures) (start .pre .1) (branch .if1 .left)
+    (c .left-of .result) (c .left-of .ensures) (c .before .if2 .left)
 
 sets-of-choice-sets-requires : (t : ℕ) → sets-of-lts.Need-choice-sets-requires (calls t) (sets-of-at t) sets-of.Post
 sets-of-choice-sets-requires t c κs = search needs

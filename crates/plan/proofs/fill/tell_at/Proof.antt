@@ -1,15 +1,9 @@
 -- `plan::fill::tell_at` meets its contract. Assumes nothing.
 use mathlib.Core.Path.{ap}
-use borrow.Author.Needs.{needs}
 use lib.ListN.{set}
+use borrow.Author.Needs.{needs}
 use Rattle.plan.proofs.fill.tell_at.Statement.{statement}
 use Rattle.plan.proofs.fill.tell_at.Tie as tie
-
-mul-told : tie.Need-mul-told
-mul-told c = search needs
-
-element-copy-out-told : tie.Need-element-copy-out-told
-element-copy-out-told c = search needs
 
 told-requires : tie.Need-told-requires
 told-requires c κs = search needs
@@ -21,9 +15,7 @@ element-write-plan : tie.Need-element-write-plan
 element-write-plan c = search needs
 
 returns : tie.Need-returns
-returns c = let a = c .before .before .args in ap (set (a .plan .now) (a .c)) (c .told .ensures)
+returns c = let a = c .before .args in ap (set (a .plan .now) (a .c)) (c .told .ensures)
 
 pub tell-at-spec : {M : Type 1} → statement M
-tell-at-spec =
-    tie.close
-    (tie.spec mul-told element-copy-out-told told-requires mul-plan element-write-plan returns)
+tell-at-spec = tie.close (tie.spec told-requires mul-plan element-write-plan returns)

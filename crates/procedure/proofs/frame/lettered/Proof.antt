@@ -16,7 +16,7 @@ four-at-requires c κs = search needs
 returns : tie.Need-returns
 returns c =
     let f = c .before .before .before .args .file .now in
-    λ p. c .if1 .taken (c .before .four-at .ensures ∙ letters-number f (omega arith) (p .0))
+    λ p. c .if1 .taken (c .before .four-at .ensures .0 ∙ letters-number f (omega arith) (p .0))
 
 sub-two-at : tie.Need-sub-two-at
 sub-two-at c = search needs
@@ -31,7 +31,7 @@ returns-3 : tie.Need-returns-3
 returns-3 c =
     let before = c .before .before .before in
     let f = before .before .before .args .file .now in (
-      number-letters f (omega arith) (λ i. before .before .shared-slice-known .given i .fits) (sym (before .four-at .ensures) ∙ c .before .before .if1 .left),
+      number-letters f (omega arith) (λ i. before .before .shared-slice-known .given i .fits) (sym (before .four-at .ensures .0) ∙ c .before .before .if1 .left),
       sym (c .before .two-at .ensures .0) ∙ c .if2 .left,
     )
 

@@ -6,20 +6,20 @@ use native.Mathlib.Omega.{arith}
 use lib.ListN.{getD}
 use borrow.Author.Needs.{needs}
 use Rattle.procedure.specs.Entry.{held}
-use Rattle.procedure.specs.Parts.{Begins}
-use Rattle.procedure.proofs.Orders.{begins-below, leaf-begins, repeat-begins, pair-begins, childless, body-off, right-off, left-off}
+use Rattle.procedure.specs.Listing.{Spans}
+use Rattle.procedure.proofs.Orders.{spans-below, leaf-spans, repeat-spans, pair-spans, childless, body-off, right-off, left-off, start-told}
 use Rattle.procedure.proofs.order.start_of.Statement.{statement}
 use Rattle.procedure.proofs.order.start_of.Tie as tie
 
 abbrev start : tie.After-wide → tie.Start
-start w = w .before .before .before .before .before .before
+start w = w .before .before .before .before .before .before .before
 
 -- a start that was read is that of the part of its node
-begun : (a : tie.Start) (j s : ℕ) → j < a .args .i → s ≡ getD (a .args .starts .now) j 0 → Begins (held (a .args .nodes .now)) s j
-begun a j s l e = subst (λ (x : ℕ). Begins (held (a .args .nodes .now)) x j) (sym e) (a .pre .1 .1 j l)
+begun : (a : tie.Start) (j s : ℕ) → j < a .args .i → s ≡ getD (a .args .starts .now) j 0 → Spans (held (a .args .nodes .now)) s j
+begun a j s l e = subst (λ (x : ℕ). Spans (held (a .args .nodes .now)) x j) (sym e) (start-told _ _ _ j (a .pre .1 .1) l)
 
 -- the part of the node before begins at `before`
-above : (w : tie.After-wide) → Begins (held (start w .args .nodes .now)) (w .wide .result) (start w .args .i - 1)
+above : (w : tie.After-wide) → Spans (held (start w .args .nodes .now)) (w .wide .result) (start w .args .i - 1)
 above w = begun (start w) (start w .args .i - 1) (w .wide .result) (omega arith) (w .wide .ensures)
 
 mul-entry : tie.Need-mul-entry
@@ -32,16 +32,16 @@ kind-of-requires : tie.Need-kind-of-requires
 kind-of-requires c κs = search needs
 
 returns : tie.Need-returns
-returns c = let a = c .before .before .before in leaf-begins (held (a .args .nodes .now)) (a .args .i) (a .pre .1 .0) (omega arith)
+returns c = let a = c .before .before .before .before in leaf-spans (held (a .args .nodes .now)) (a .args .i) (a .pre .1 .0) (omega arith)
 
 returns-2 : tie.Need-returns-2
-returns-2 c = let a = c .before .before .before .before in childless (held (a .args .nodes .now)) (a .args .i) (omega arith) (omega arith)
+returns-2 c = let a = c .before .before .before .before .before in childless (held (a .args .nodes .now)) (a .args .i) (omega arith) (omega arith)
 
 mul-wide : tie.Need-mul-wide
 mul-wide c = search needs
 
-element-copy-out-wide : tie.Need-element-copy-out-wide
-element-copy-out-wide c = search needs
+shared-slice-read-wide : tie.Need-shared-slice-read-wide
+shared-slice-read-wide c = search needs
 
 wide-requires : tie.Need-wide-requires
 wide-requires c κs = search needs
@@ -58,7 +58,7 @@ returns-4 : tie.Need-returns-4
 returns-4 c =
     let w = c .before .before .before in
     let a = start w in
-    repeat-begins (held (a .args .nodes .now)) (w .wide .result) (a .args .i) (a .pre .1 .0) (omega arith) (omega arith) (omega arith) (above w)
+    repeat-spans (held (a .args .nodes .now)) (w .wide .result) (a .args .i) (a .pre .1 .0) (omega arith) (omega arith) (omega arith) (above w)
 
 right-of-requires : tie.Need-right-of-requires
 right-of-requires c κs = search needs
@@ -87,13 +87,13 @@ returns-7 c =
 mul-wide-2 : tie.Need-mul-wide-2
 mul-wide-2 c =
     let w = c .before .before .before .before .before .before in
-    let l = begins-below _ _ _ (above w) in
+    let l = spans-below _ _ _ (above w) in
     omega arith
 
-element-copy-out-wide-2 : tie.Need-element-copy-out-wide-2
-element-copy-out-wide-2 c =
-    let w = c .before .before .before .before .before .before in
-    let l = begins-below _ _ _ (above w) in
+shared-slice-read-wide-2 : tie.Need-shared-slice-read-wide-2
+shared-slice-read-wide-2 c =
+    let w = c .before .before .before .before .before .before .before in
+    let l = spans-below _ _ _ (above w) in
     omega arith
 
 wide-requires-2 : tie.Need-wide-requires-2
@@ -103,8 +103,8 @@ returns-8 : tie.Need-returns-8
 returns-8 c =
     let w = c .before .before .before .before .before .before .before .before in
     let a = start w in
-    let l = begins-below _ _ _ (above w) in
-    pair-begins
+    let l = spans-below _ _ _ (above w) in
+    pair-spans
     (held (a .args .nodes .now))
     (c .wide2 .result)
     (w .wide .result)
@@ -129,7 +129,7 @@ start-of-spec =
     returns
     returns-2
     mul-wide
-    element-copy-out-wide
+    shared-slice-read-wide
     wide-requires
     body-of-requires
     returns-3
@@ -140,6 +140,6 @@ start-of-spec =
     left-of-requires
     returns-7
     mul-wide-2
-    element-copy-out-wide-2
+    shared-slice-read-wide-2
     wide-requires-2
     returns-8)

@@ -12,7 +12,7 @@ mul-node : tie.Need-mul-node
 mul-node c = search needs
 
 element-copy-out-node : tie.Need-element-copy-out-node
-element-copy-out-node c = let start = c in omega (arith, start .pre .1 .1 .1 .1 .few)
+element-copy-out-node c = let start = c in omega (arith, start .pre .1 .1 .1 .listing .few)
 
 kind-of-requires : tie.Need-kind-of-requires
 kind-of-requires c κs = search needs
@@ -24,12 +24,12 @@ returns : tie.Need-returns
 returns c =
     let told = c .before .before in
     let a = told .before .before .args in
-    code-of-none (a .nodes .now) (a .plan .now) (a .n) (a .p) (a .q) _ (λ e. c .before .if1 .taken (told .kind-of .ensures ∙ e)) (c .none .ensures .0)
+    code-of-none (a .nodes .now) (a .starts .now) (a .nulls .now) (a .plan .now) (a .n) (a .p) (a .q) _ (λ e. c .before .if1 .taken (told .kind-of .ensures ∙ e)) (c .none .ensures .0)
 
 near-requires : tie.Need-near-requires
 near-requires c κs =
     let start = c .before .before .before in
-    (start .pre .0, (sym (c .before .kind-of .ensures) ∙ c .if1 .left, start .pre .1 .1 .1))
+    (start .pre .0, (sym (c .before .kind-of .ensures) ∙ c .if1 .left, start .pre .1 .1))
 
 code-of-requires : tie.Need-code-of-requires
 code-of-requires c κs = search needs
@@ -40,7 +40,7 @@ one-requires c κs =
     let start = event .before .before .before in
     let a = start .args in
     let kind = sym (event .before .kind-of .ensures) ∙ event .if1 .left in
-    omega (arith, c .code-of .ensures, event-kept (held (a .nodes .now) (a .q)) (start .pre .1 .1 .0 (a .q) (start .pre .1 .0)) kind)
+    omega (arith, c .code-of .ensures, event-kept (held (a .nodes .now) (a .q)) (start .pre .1 .1 .1 .listing .table (a .q) (start .pre .1 .0)) kind)
 
 returns-2 : tie.Need-returns-2
 returns-2 c =
@@ -48,7 +48,7 @@ returns-2 c =
     let event = told .before in
     let start = event .before .before .before in
     let a = start .args in
-    code-near _ _ (start .pre .1 .0) (start .pre .1 .1 .0 (a .q) (start .pre .1 .0)) (sym (event .before .kind-of .ensures) ∙ event .if1 .left) (told .near .ensures) (c .before .before .if2 .taken)
+    code-near _ _ (start .pre .1 .0) (sym (event .before .kind-of .ensures) ∙ event .if1 .left) (told .near .ensures) (c .before .before .if2 .taken)
     (c .before .code-of .ensures) (c .one .ensures .0)
 
 none-requires-2 : tie.Need-none-requires-2

@@ -3,9 +3,9 @@ use mathlib.Core.List.{List}
 use Prim.Native.Nat.{ℕ}
 use borrow.Author.Needs.{needs}
 use Rattle.meaning.specs.Expr.{Expr}
+use Rattle.procedure.specs.Listing.{Tables}
 use Rattle.plan.specs.Plan.{Plans}
-use Rattle.states.specs.Valid.{ReadOf}
-use Rattle.states.specs.Ready.{Ready}
+use Rattle.states.specs.Standing.{ReadOf}
 use Rattle.states.proofs.Readiness.{read-below}
 use Rattle.prompt.proofs.Prompting.{read-event, prompts-unreached, prompts-lit}
 use Rattle.prompt.proofs.light.light.Statement.{statement}
@@ -15,15 +15,12 @@ fill-plan-requires : tie.Need-fill-plan-requires
 fill-plan-requires c κs = search needs
 
 read-state-requires : tie.Need-read-state-requires
-read-state-requires c κs =
-    let fill = c .before .before in
-    let ready = fill .before .before .before .pre .0 in
-    ((ready .0, fill .fill-plan .ensures (ready .0) (ready .1 .stands) (ready .1 .sized)), search needs)
+read-state-requires c κs = search needs
 
 -- ---- what is known once the state is read
 
 abbrev begun : tie.After-read-state → tie.Start
-begun r = r .before .before .before .before .before .before
+begun r = r .before .before .before .before .before
 
 abbrev nodes : tie.After-read-state → List ℕ
 nodes r = begun r .args .nodes .now
@@ -31,17 +28,23 @@ nodes r = begun r .args .nodes .now
 abbrev bytes : tie.After-read-state → List ℕ
 bytes r = begun r .args .bytes .now
 
-abbrev table : tie.After-read-state → List ℕ
-table r = r .before .before .before .fill-plan .last .1 .0
+abbrev plan : tie.After-read-state → List ℕ
+plan r = r .before .before .fill-plan .last .1 .1 .0
 
 abbrev counts : tie.After-read-state → List ℕ
-counts r = r .read-state .last .1 .1 .1 .1 .0
+counts r = r .read-state .last .1 .1 .1 .1 .1 .1 .1 .0
 
-planned : (r : tie.After-read-state) (e : Expr) → Ready (nodes r) (begun r .args .n) e → Plans (nodes r) (table r) (begun r .args .n) e
-planned r e w = r .before .before .before .fill-plan .ensures e (w .stands) (w .sized)
+-- the tables have the expression
+abbrev Has : tie.After-read-state → Expr → Type 0
+Has r e =
+    Tables (nodes r) (begun r .args .starts .now) (begun r .args .nulls .now) (begun r .args .repeats .now) (begun r .args .n) (begun r .args .r) e
 
-told : (r : tie.After-read-state) (e : Expr) → Ready (nodes r) (begun r .args .n) e → ReadOf e (bytes r) (counts r) (r .read-state .result)
-told r e w = r .read-state .ensures e (planned r e w) (w .bounded) (w .small)
+planned : (r : tie.After-read-state) (e : Expr) → Has r e
+    → Plans (nodes r) (begun r .args .starts .now) (begun r .args .nulls .now) (plan r) (begun r .args .n) e
+planned r e w = r .before .before .fill-plan .ensures _ _ e w
+
+told : (r : tie.After-read-state) (e : Expr) → Has r e → ReadOf e (bytes r) (counts r) (r .read-state .result)
+told r e w = r .read-state .ensures e w
 
 enum-told : tie.Need-enum-told
 enum-told c = search needs
@@ -54,11 +57,11 @@ lit-requires c κs =
     let node = c .before .before in
     let r = node .before .before in
     let pre = begun r .pre in
-    let e = pre .0 .0 in
-    let ready = pre .0 .1 in
-    let came = told r e ready in (
-      read-below e (bytes r) (counts r) _ _ _ (ready .sized) came (node .node .given .1),
-      (read-event e (bytes r) (counts r) _ _ ready came (node .node .given .1), (pre .1, (e, planned r e ready))),
+    let e = pre .0 in
+    let listing = pre .1 .listing in
+    let came = told r e (pre .1) in (
+      read-below e (bytes r) (counts r) _ _ _ (listing .sized) came (node .node .given .1),
+      (read-event e (bytes r) (counts r) _ _ listing came (node .node .given .1), (e, planned r e (pre .1))),
     )
 
 returns : tie.Need-returns

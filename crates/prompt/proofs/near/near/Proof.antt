@@ -13,10 +13,10 @@ use Rattle.prompt.proofs.near.near.Statement.{statement}
 use Rattle.prompt.proofs.near.near.Tie as tie
 
 abbrev Inv-loop : tie.InvT-loop
-Inv-loop nodes plan n p q x₀ x = (1 ≤ x) × ((r : Bool) → Nears nodes plan n q x r → Nears nodes plan n q (aboveAt plan p) r)
+Inv-loop nodes starts nulls plan n p q x₀ x = (1 ≤ x) × ((r : Bool) → Nears nodes starts nulls plan n q x r → Nears nodes starts nulls plan n q (aboveAt plan p) r)
 
 abbrev μ-loop : tie.MeasureT-loop
-μ-loop nodes plan n p q x₀ x = n - x
+μ-loop nodes starts nulls plan n p q x₀ x = n - x
 
 mul-above-of : tie.Need-mul-above-of Inv-loop μ-loop
 mul-above-of c = search needs
@@ -32,7 +32,7 @@ loop-holds c =
     let start = c .before .before in
     let a = start .args in
     let up = rises (start .pre .1 .1 .1) (a .p) (start .pre .0) in
-    (omega (arith, c .above-of .ensures .0), λ r. subst (λ (y : ℕ). Nears (a .nodes .now) (a .plan .now) (a .n) (a .q) y r) (c .above-of .ensures .0))
+    (omega (arith, c .above-of .ensures .0), λ r. subst (λ (y : ℕ). Nears (a .nodes .now) (a .starts .now) (a .nulls .now) (a .plan .now) (a .n) (a .q) y r) (c .above-of .ensures .0))
 
 turns-at-requires : tie.Need-turns-at-requires Inv-loop μ-loop
 turns-at-requires c κs = search needs
@@ -88,7 +88,7 @@ loop-again c =
           in-loop .before .loop .inv .1 r
           (on (in-loop .loop-test .taken) (sym (there .before .turns-at .ensures) ∙ there .if1 .left)
           (sym (passed .before .passes-at .ensures) ∙ not-false _ (passed .if2 .left))
-          (subst (λ (y : ℕ). Nears (a .nodes .now) (a .plan .now) (a .n) (a .q) y r) (c .above-of2 .ensures .0) w)),
+          (subst (λ (y : ℕ). Nears (a .nodes .now) (a .starts .now) (a .nulls .now) (a .plan .now) (a .n) (a .q) y r) (c .above-of2 .ensures .0) w)),
     )
 
 returns-3 : tie.Need-returns-3 Inv-loop μ-loop

@@ -8,17 +8,22 @@ use Prim.Native.Nat.{ℕ, _+_, _-_, _*_, _≤_, _<_}
 use native.Mathlib.Omega.{arith}
 use lib.ListN.{length}
 use borrow.Author.Needs.{needs}
-use borrow.Author.Tests.{not-true, not-false}
 use borrow.Fn.Kinds.{In}
 use borrow.Fn.PlainCycle.{Measures, is, falls, and}
 use Rattle.meaning.specs.Node.{Node}
 use Rattle.procedure.specs.Entry.{held, kindOf}
 use Rattle.record.specs.declared.walk.Taken.{Taken}
 use Rattle.record.specs.declared.walk.Taken.the-variants.{To, Stuck}
-use Rattle.record.specs.Walk.{Inside, Onward, Ready, TakesAt, itemsIn}
+use Rattle.procedure.specs.Listing.{OneOf, Spans, TellsNulls}
+use Rattle.procedure.specs.Tests.{Decides}
+use Rattle.procedure.proofs.Deciding.{fails, holds}
+use Rattle.procedure.proofs.Empties.{null-told, nulls-fewer}
+use Rattle.procedure.proofs.Nodes.{one-lower, one-small}
+use Rattle.procedure.proofs.Orders.{spans-below}
+use Rattle.record.specs.Walk.{EatsAt, Inside, Onward, itemsIn}
 use Rattle.record.proofs.Bytes.{item-there, items-length}
 use Rattle.record.proofs.Stays.{StayAt, stay-starts, stay-goes, stay-stops, stuck-body, stuck-event, stuck-closing, item-is}
-use Rattle.record.proofs.Walks.{decided, denied, ends-decided, onward-ends, onward-further, ready-start, ready-left, ready-right, ready-body, pass-by, leaf-takes, choice-goes-left, choice-goes-right, sequence-goes, sequence-stuck}
+use Rattle.record.proofs.Walks.{ends-decided, onward-ends, onward-further, left-spans, right-spans, body-spans, pass-by, leaf-eats, choice-goes-left, choice-goes-right, sequence-goes, sequence-stuck}
 use Rattle.record.proofs.walk.take.Reads as take
 use Rattle.record.proofs.walk.take.Kinds as take-kinds
 use Rattle.record.proofs.walk.+take+take_blocks.Lts-take as take-lts
@@ -29,7 +34,7 @@ use Rattle.procedure.proofs.entry.kind_of.Reads as kind-of-reads
 use Rattle.procedure.proofs.entry.left_of.Reads as left-of-reads
 use Rattle.record.proofs.items.inside.Reads as inside-reads
 use Rattle.record.proofs.items.read_item.Reads as read-item-reads
-use Rattle.record.proofs.walk.may_stop.Reads as may-stop-reads
+use Rattle.procedure.proofs.bounds.may_have.Reads as may-have-reads
 use Rattle.record.proofs.walk.to_if.Reads as to-if-reads
 use Rattle.record.proofs.walk.+take+take_blocks.{statement}
 use Rattle.record.proofs.walk.+take+take_blocks.Tie.{close}
@@ -77,8 +82,8 @@ abbrev block-calls : ℕ → take-blocks-lts.Claims
 block-calls t = (
   read-item-reads.Asked,
   read-item-reads.Learnt,
-  may-stop-reads.Asked,
-  may-stop-reads.Learnt,
+  may-have-reads.Asked,
+  may-have-reads.Learnt,
   to-if-reads.Asked,
   to-if-reads.Learnt,
   take-below t,
@@ -87,8 +92,8 @@ block-calls t = (
 
 abbrev take-Inv-loop : take-lts.InvT-loop
 take-Inv-loop nodes nulls bytes start node place s₀ i₀ at₀ s i at =
-    Ready (held nodes) nulls s i × (at ≤ length (itemsIn bytes)) × (place ≤ at) × (i ≤ node)
-    × ((r : Taken) → TakesAt (held nodes) (itemsIn bytes) s i at r → TakesAt (held nodes) (itemsIn bytes) start node place r)
+    Spans (held nodes) s i × (at ≤ length (itemsIn bytes)) × (place ≤ at) × (i ≤ node)
+    × ((r : Taken) → EatsAt (held nodes) (itemsIn bytes) s i at r → EatsAt (held nodes) (itemsIn bytes) start node place r)
 
 abbrev take-μ-loop : take-lts.MeasureT-loop
 take-μ-loop nodes nulls bytes start node place s₀ i₀ at₀ s i at = i
@@ -106,29 +111,41 @@ take-items a = itemsIn (a .before .before .args .bytes .now)
 -- the item is inside the part
 inside-part : (t : ℕ) (c : take-lts.Else1 (take-calls t) (take-at t) take.Post take-Inv-loop take-μ-loop)
     → Inside (c .before .before .before .loop .s) (c .before .before .before .loop .i) (c .before .before .read-item .result)
-inside-part t c = decided _ (c .before .inside .result) (c .before .inside .ensures) (not-false _ (c .if1 .left))
+inside-part t c = holds _ (c .before .inside .result) (c .before .inside .ensures) (c .if1 .left)
+
+-- the node that the loop is at
+one : (t : ℕ) (a : take-lts.At-loop (take-calls t) (take-at t) take.Post take-Inv-loop take-μ-loop) → OneOf (a .before .before .args .nodes .now) (a .loop .i)
+one t a = one-lower (a .before .before .args .node) (a .loop .i) (a .loop .inv .3) (a .before .before .pre .1 .0)
+
+small : (t : ℕ) (a : take-lts.At-loop (take-calls t) (take-at t) take.Post take-Inv-loop take-μ-loop) → a .loop .i < 512
+small t a = one-small (a .loop .i) (one t a)
+
+-- what is known of the parts up to a lower node
+known-to : (t : ℕ) (a : take-lts.At-loop (take-calls t) (take-at t) take.Post take-Inv-loop take-μ-loop) (j : ℕ) → j ≤ a .loop .i
+    → TellsNulls (take-nodes a) (take-nulls a) (j + 1)
+known-to t a j h = nulls-fewer (take-nodes a) (take-nulls a) (j + 1) (a .before .before .args .node + 1) (omega (arith, a .loop .inv .3)) (a .before .before .pre .1 .1 .1 .0)
 
 -- the part of a node with two children
-left-ready : (t : ℕ) (c : take-lts.After-left-of (take-calls t) (take-at t) take.Post take-Inv-loop take-μ-loop)
+left-part : (t : ℕ) (c : take-lts.After-left-of (take-calls t) (take-at t) take.Post take-Inv-loop take-μ-loop)
     → let a = c .before .before .before .before .before .before .before .before in
-    Ready (take-nodes a) (take-nulls a) (a .loop .s) (c .left-of .result) × (c .left-of .result < a .loop .i)
-left-ready t c =
+    Spans (take-nodes a) (a .loop .s) (c .left-of .result) × (c .left-of .result < a .loop .i)
+left-part t c =
     let k = c .before .before .before in
     let a = k .before .before .before .before .before in
-    ready-left (take-nodes a) (take-nulls a) (a .loop .s) (a .loop .i) (k .kind-of .result) (c .left-of .result) (k .kind-of .ensures) (a .loop .inv .0)
+    left-spans (take-nodes a) (a .loop .s) (a .loop .i) (k .kind-of .result) (k .kind-of .ensures) (a .loop .inv .0) (c .left-of .result)
     (c .left-of .ensures) (c .before .before .if2 .left) (c .before .if3 .left)
 
-right-ready : (t : ℕ) (c : take-lts.After-left-of (take-calls t) (take-at t) take.Post take-Inv-loop take-μ-loop)
+right-part : (t : ℕ) (c : take-lts.After-left-of (take-calls t) (take-at t) take.Post take-Inv-loop take-μ-loop)
     → let a = c .before .before .before .before .before .before .before .before in
-    Ready (take-nodes a) (take-nulls a) (c .left-of .result + 1) (a .loop .i - 1) × (1 ≤ a .loop .i)
-right-ready t c =
+    Spans (take-nodes a) (c .left-of .result + 1) (a .loop .i - 1) × (1 ≤ a .loop .i)
+right-part t c =
     let k = c .before .before .before in
     let a = k .before .before .before .before .before in
-    ready-right (take-nodes a) (take-nulls a) (a .loop .s) (a .loop .i) (k .kind-of .result) (c .left-of .result) (k .kind-of .ensures) (a .loop .inv .0)
+    right-spans (take-nodes a) (a .loop .s) (a .loop .i) (k .kind-of .result) (k .kind-of .ensures) (a .loop .inv .0) (c .left-of .result)
     (c .left-of .ensures) (c .before .before .if2 .left) (c .before .if3 .left)
 
 take-loop-holds : (t : ℕ) → take-lts.Need-loop-holds (take-calls t) (take-at t) take.Post take-Inv-loop take-μ-loop
-take-loop-holds t c = (c .before .pre .1 .0, c .before .pre .1 .1, omega arith, omega arith, λ r a. a)
+take-loop-holds t c = (c .before .pre .1 .1 .0, c .before .pre .1 .1 .1 .1, omega arith, omega arith, λ r a. a)
 
 take-read-item-requires : (t : ℕ) → take-lts.Need-read-item-requires (take-calls t) (take-at t) take.Post take-Inv-loop take-μ-loop
 take-read-item-requires t c κs = search needs
@@ -137,7 +154,7 @@ take-inside-requires : (t : ℕ) → take-lts.Need-inside-requires (take-calls t
 take-inside-requires t c κs = search needs
 
 take-element-copy-out-to-if : (t : ℕ) → take-lts.Need-element-copy-out-to-if (take-calls t) (take-at t) take.Post take-Inv-loop take-μ-loop
-take-element-copy-out-to-if t c = c .before .before .before .loop .inv .0 .small
+take-element-copy-out-to-if t c = small t (c .before .before .before)
 
 take-to-if-requires : (t : ℕ) → take-lts.Need-to-if-requires (take-calls t) (take-at t) take.Post take-Inv-loop take-μ-loop
 take-to-if-requires t c κs = search needs
@@ -147,18 +164,19 @@ take-returns t c =
     let a = c .before .before .before .before .before in
     let n = c .before .before .before .before in
     let p = c .before .before .before in
-    let out = denied _ (p .inside .result) (p .inside .ensures) (not-true _ (c .before .before .if1 .taken)) in
+    let out = fails _ (p .inside .result) (p .inside .ensures) (c .before .before .if1 .taken) in
     let r = c .to-if .result in (
       onward-ends _ (take-items a) (a .before .before .args .place) (a .loop .at) r (a .loop .inv .2) (a .loop .inv .1) (c .to-if .ensures),
-      a .loop .inv .4 r (pass-by (take-nodes a) (take-nulls a) (take-items a) (a .loop .s) (a .loop .i) (a .loop .at) (n .read-item .result) r (a .loop .inv .0)
+      a .loop .inv .4 r (pass-by (take-nodes a) _ (take-items a) (a .loop .s) (a .loop .i) (a .loop .at) (n .read-item .result) r (small t a)
+          (null-told (take-nodes a) (take-nulls a) (a .loop .i + 1) (a .loop .i) (known-to t a (a .loop .i) (omega arith)) (omega arith))
           (n .read-item .ensures) out (c .to-if .ensures)),
     )
 
 take-mul-entry : (t : ℕ) → take-lts.Need-mul-entry (take-calls t) (take-at t) take.Post take-Inv-loop take-μ-loop
-take-mul-entry t c = omega (arith, c .before .before .before .loop .inv .0 .small)
+take-mul-entry t c = omega (arith, small t (c .before .before .before))
 
 take-element-copy-out-entry : (t : ℕ) → take-lts.Need-element-copy-out-entry (take-calls t) (take-at t) take.Post take-Inv-loop take-μ-loop
-take-element-copy-out-entry t c = c .before .before .before .loop .inv .0 .small
+take-element-copy-out-entry t c = small t (c .before .before .before)
 
 take-kind-of-requires : (t : ℕ) → take-lts.Need-kind-of-requires (take-calls t) (take-at t) take.Post take-Inv-loop take-μ-loop
 take-kind-of-requires t c κs = search needs
@@ -168,7 +186,7 @@ take-add-to-if t c =
     let e = c .before .before .before in
     let n = e .before .before in
     let a = n .before in
-    let there = item-there (take-items a) (a .loop .at) (n .read-item .result) (n .read-item .ensures) (omega (arith, inside-part t e, a .loop .inv .0 .small)) in
+    let there = item-there (take-items a) (a .loop .at) (n .read-item .result) (n .read-item .ensures) (omega (arith, inside-part t e, small t a)) in
     omega (arith, there .0, items-length (a .before .before .args .bytes .now))
 
 take-to-if-requires-2 : (t : ℕ) → take-lts.Need-to-if-requires-2 (take-calls t) (take-at t) take.Post take-Inv-loop take-μ-loop
@@ -180,18 +198,18 @@ take-returns-2 t c =
     let e = k .before .before in
     let n = e .before .before in
     let a = n .before in
-    let there = item-there (take-items a) (a .loop .at) (n .read-item .result) (n .read-item .ensures) (omega (arith, inside-part t e, a .loop .inv .0 .small)) in
+    let there = item-there (take-items a) (a .loop .at) (n .read-item .result) (n .read-item .ensures) (omega (arith, inside-part t e, small t a)) in
     let r = c .to-if2 .result in (
       onward-ends _ (take-items a) (a .before .before .args .place) (a .loop .at + 1) r (omega (arith, a .loop .inv .2)) (omega (arith, there .0)) (c .to-if2 .ensures),
-      a .loop .inv .4 r (leaf-takes (take-nodes a) (take-items a) (a .loop .s) (a .loop .i) (a .loop .at) (k .kind-of .result) (n .read-item .result) r (k .kind-of .ensures)
-          (c .before .if2 .taken) (a .loop .inv .0 .small) (n .read-item .ensures) (inside-part t e) (c .to-if2 .ensures)),
+      a .loop .inv .4 r (leaf-eats (take-nodes a) (take-items a) (a .loop .s) (a .loop .i) (a .loop .at) (k .kind-of .result) (n .read-item .result) r (k .kind-of .ensures)
+          (c .before .if2 .taken) (small t a) (n .read-item .ensures) (inside-part t e) (c .to-if2 .ensures)),
     )
 
 take-take-blocks-requires : (t : ℕ) → take-lts.Need-take-blocks-requires (take-calls t) (take-at t) take.Post take-Inv-loop take-μ-loop
 take-take-blocks-requires t c κs =
     let k = c .before .before in
     let a = k .before .before .before .before .before in
-    (omega (arith, a .before .before .pre .0, a .loop .inv .3), (a .loop .inv .0, (a .loop .inv .1, sym (k .kind-of .ensures) ∙ c .if3 .taken)))
+    (omega (arith, a .before .before .pre .0, a .loop .inv .3), (one t a, (a .loop .inv .0, (known-to t a (a .loop .i) (omega arith), (a .loop .inv .1, sym (k .kind-of .ensures) ∙ c .if3 .taken)))))
 
 take-returns-3 : (t : ℕ) → take-lts.Need-returns-3 (take-calls t) (take-at t) take.Post take-Inv-loop take-μ-loop
 take-returns-3 t c =
@@ -206,7 +224,7 @@ take-inside-requires-2 : (t : ℕ) → take-lts.Need-inside-requires-2 (take-cal
 take-inside-requires-2 t c κs = search needs
 
 take-loop-less : (t : ℕ) → take-lts.Need-loop-less (take-calls t) (take-at t) take.Post take-Inv-loop take-μ-loop
-take-loop-less t c = left-ready t (c .before .before .before) .1
+take-loop-less t c = left-part t (c .before .before .before) .1
 
 take-loop-again : (t : ℕ) → take-lts.Need-loop-again (take-calls t) (take-at t) take.Post take-Inv-loop take-μ-loop
 take-loop-again t c =
@@ -215,27 +233,27 @@ take-loop-again t c =
     let e = k .before .before in
     let n = e .before .before in
     let a = n .before in
-    let ready = left-ready t f in
-    let here = decided _ (c .before .inside2 .result) (c .before .inside2 .ensures) (c .if5 .taken) in (
-      ready .0,
+    let part = left-part t f in
+    let here = subst (Decides _) (c .if5 .taken) (c .before .inside2 .ensures) in (
+      part .0,
       a .loop .inv .1,
       a .loop .inv .2,
-      omega (arith, ready .1, a .loop .inv .3),
+      omega (arith, part .1, a .loop .inv .3),
       λ r b. a .loop .inv .4 r (choice-goes-left (take-nodes a) (take-items a) (a .loop .s) (a .loop .i) (a .loop .at) (k .kind-of .result) (f .left-of .result)
-          (k .kind-of .ensures) (f .left-of .ensures) (a .loop .inv .0 .small) (n .read-item .result) (n .read-item .ensures) (c .before .before .if4 .taken) r here b),
+          (k .kind-of .ensures) (f .left-of .ensures) (small t a) (n .read-item .result) (n .read-item .ensures) (c .before .before .if4 .taken) r here b),
     )
 
 take-add-s : (t : ℕ) → take-lts.Need-add-s (take-calls t) (take-at t) take.Post take-Inv-loop take-μ-loop
 take-add-s t c =
     let f = c .before .before .before in
     let a = f .before .before .before .before .before .before .before .before in
-    omega (arith, left-ready t f .1, a .loop .inv .0 .small)
+    omega (arith, left-part t f .1, small t a)
 
 take-sub-i : (t : ℕ) → take-lts.Need-sub-i (take-calls t) (take-at t) take.Post take-Inv-loop take-μ-loop
-take-sub-i t c = right-ready t (c .before .before .before) .1
+take-sub-i t c = right-part t (c .before .before .before) .1
 
 take-loop-less-2 : (t : ℕ) → take-lts.Need-loop-less-2 (take-calls t) (take-at t) take.Post take-Inv-loop take-μ-loop
-take-loop-less-2 t c = omega (arith, right-ready t (c .before .before .before) .1)
+take-loop-less-2 t c = omega (arith, right-part t (c .before .before .before) .1)
 
 take-loop-again-2 : (t : ℕ) → take-lts.Need-loop-again-2 (take-calls t) (take-at t) take.Post take-Inv-loop take-μ-loop
 take-loop-again-2 t c =
@@ -244,22 +262,22 @@ take-loop-again-2 t c =
     let e = k .before .before in
     let n = e .before .before in
     let a = n .before in
-    let ready = right-ready t f in
-    let out = denied _ (c .before .inside2 .result) (c .before .inside2 .ensures) (c .if5 .left) in (
-      ready .0,
+    let part = right-part t f in
+    let out = subst (Decides _) (c .if5 .left) (c .before .inside2 .ensures) in (
+      part .0,
       a .loop .inv .1,
       a .loop .inv .2,
       omega (arith, a .loop .inv .3),
       λ r b. a .loop .inv .4 r (choice-goes-right (take-nodes a) (take-items a) (a .loop .s) (a .loop .i) (a .loop .at) (k .kind-of .result) (f .left-of .result)
-          (k .kind-of .ensures) (f .left-of .ensures) (a .loop .inv .0 .small) (n .read-item .result) (n .read-item .ensures) (c .before .before .if4 .taken) r (inside-part t e) out b),
+          (k .kind-of .ensures) (f .left-of .ensures) (small t a) (n .read-item .result) (n .read-item .ensures) (c .before .before .if4 .taken) r (inside-part t e) out b),
     )
 
 take-take-requires : (t : ℕ) → take-lts.Need-take-requires (take-calls t) (take-at t) take.Post take-Inv-loop take-μ-loop
 take-take-requires t c κs =
     let f = c .before in
     let a = f .before .before .before .before .before .before .before .before in
-    let ready = left-ready t f in
-    (omega (arith, ready .1, a .before .before .pre .0, a .loop .inv .3), (ready .0, a .loop .inv .1))
+    let part = left-part t f in
+    (omega (arith, part .1, a .before .before .pre .0, a .loop .inv .3), (one-lower (a .loop .i) (f .left-of .result) (omega (arith, part .1)) (one t a), (part .0, (known-to t a (f .left-of .result) (omega (arith, part .1)), a .loop .inv .1))))
 
 take-enum-known-next : (t : ℕ) → take-lts.Need-enum-known-next (take-calls t) (take-at t) take.Post take-Inv-loop take-μ-loop
 take-enum-known-next t c = search needs
@@ -273,23 +291,23 @@ take-returns-4 t c =
     let f = d .before .before in
     let k = f .before .before .before in
     let a = k .before .before .before .before .before in
-    let stuck = subst (TakesAt (take-nodes a) (take-items a) (a .loop .s) (f .left-of .result) (a .loop .at)) (c .enum-told .given .1) (d .take .ensures .1) in (
+    let stuck = subst (EatsAt (take-nodes a) (take-items a) (a .loop .s) (f .left-of .result) (a .loop .at)) (c .enum-told .given .1) (d .take .ensures .1) in (
       tt,
       a .loop .inv .4 Stuck (sequence-stuck (take-nodes a) (take-items a) (a .loop .s) (a .loop .i) (a .loop .at) (k .kind-of .result) (f .left-of .result)
-          (k .kind-of .ensures) (f .left-of .ensures) (a .loop .inv .0 .small) (f .before .before .if2 .left) (d .before .if4 .left) (f .before .if3 .left) stuck),
+          (k .kind-of .ensures) (f .left-of .ensures) (small t a) (f .before .before .if2 .left) (d .before .if4 .left) (f .before .if3 .left) stuck),
     )
 
 take-add-s-2 : (t : ℕ) → take-lts.Need-add-s-2 (take-calls t) (take-at t) take.Post take-Inv-loop take-μ-loop
 take-add-s-2 t c =
     let f = c .before .before .before .before .before in
     let a = f .before .before .before .before .before .before .before .before in
-    omega (arith, left-ready t f .1, a .loop .inv .0 .small)
+    omega (arith, left-part t f .1, small t a)
 
 take-sub-i-2 : (t : ℕ) → take-lts.Need-sub-i-2 (take-calls t) (take-at t) take.Post take-Inv-loop take-μ-loop
-take-sub-i-2 t c = right-ready t (c .before .before .before .before .before) .1
+take-sub-i-2 t c = right-part t (c .before .before .before .before .before) .1
 
 take-loop-less-3 : (t : ℕ) → take-lts.Need-loop-less-3 (take-calls t) (take-at t) take.Post take-Inv-loop take-μ-loop
-take-loop-less-3 t c = omega (arith, right-ready t (c .before .before .before .before .before) .1)
+take-loop-less-3 t c = omega (arith, right-part t (c .before .before .before .before .before) .1)
 
 take-loop-again-3 : (t : ℕ) → take-lts.Need-loop-again-3 (take-calls t) (take-at t) take.Post take-Inv-loop take-μ-loop
 take-loop-again-3 t c =
@@ -297,16 +315,16 @@ take-loop-again-3 t c =
     let f = d .before .before in
     let k = f .before .before .before in
     let a = k .before .before .before .before .before in
-    let ready = right-ready t f in
+    let part = right-part t f in
     let next = c .before .next .given .0 .0 in
-    let goes = subst (TakesAt (take-nodes a) (take-items a) (a .loop .s) (f .left-of .result) (a .loop .at)) (c .before .next .given .1) (d .take .ensures .1) in
+    let goes = subst (EatsAt (take-nodes a) (take-items a) (a .loop .s) (f .left-of .result) (a .loop .at)) (c .before .next .given .1) (d .take .ensures .1) in
     let on = subst (Onward (take-items a) (a .loop .at)) (c .before .next .given .1) (d .take .ensures .0) in (
-      ready .0,
+      part .0,
       on .1,
       omega (arith, on .0, a .loop .inv .2),
       omega (arith, a .loop .inv .3),
       λ r b. a .loop .inv .4 r (sequence-goes (take-nodes a) (take-items a) (a .loop .s) (a .loop .i) (a .loop .at) (k .kind-of .result) (f .left-of .result)
-          (k .kind-of .ensures) (f .left-of .ensures) (a .loop .inv .0 .small) (f .before .before .if2 .left) (d .before .if4 .left) (f .before .if3 .left) r next goes b),
+          (k .kind-of .ensures) (f .left-of .ensures) (small t a) (f .before .before .if2 .left) (d .before .if4 .left) (f .before .if3 .left) r next goes b),
     )
 
 abbrev take-blocks-Inv-loop : take-blocks-lts.InvT-loop
@@ -327,29 +345,36 @@ block-items a = itemsIn (a .before .before .args .bytes .now)
 
 -- the body of the repeat
 body : (t : ℕ) (a : take-blocks-lts.At-loop (block-calls t) (take-blocks-at t) take-blocks.Post take-blocks-Inv-loop take-blocks-μ-loop)
-    → Ready (block-nodes a) (block-nulls a) (a .before .before .args .s) (a .before .before .args .i - 1) × (1 ≤ a .before .before .args .i)
+    → Spans (block-nodes a) (a .before .before .args .s) (a .before .before .args .i - 1) × (1 ≤ a .before .before .args .i)
 body t a =
     let b = a .before .before in
-    ready-body (block-nodes a) (block-nulls a) (b .args .s) (b .args .i) (kindOf (block-nodes a (b .args .i))) 0 refl (b .pre .1 .0) (b .pre .1 .1 .1)
+    body-spans (block-nodes a) (b .args .s) (b .args .i) (kindOf (block-nodes a (b .args .i))) refl (b .pre .1 .1 .0) (b .pre .1 .1 .1 .1 .1)
 
 begins : (t : ℕ) (a : take-blocks-lts.At-loop (block-calls t) (take-blocks-at t) take-blocks.Post take-blocks-Inv-loop take-blocks-μ-loop) → a .before .before .args .s ≤ a .before .before .args .i
-begins t a = ready-start (block-nodes a) (block-nulls a) (a .before .before .args .s) (a .before .before .args .i) (a .before .before .pre .1 .0)
+begins t a = spans-below (block-nodes a) (a .before .before .args .s) (a .before .before .args .i) (a .before .before .pre .1 .1 .0)
+
+few : (t : ℕ) (a : take-blocks-lts.At-loop (block-calls t) (take-blocks-at t) take-blocks.Post take-blocks-Inv-loop take-blocks-μ-loop) → a .before .before .args .i < 512
+few t a = one-small (a .before .before .args .i) (a .before .before .pre .1 .0)
+
+-- what is known of the parts up to a lower node
+known-of : (t : ℕ) (a : take-blocks-lts.At-loop (block-calls t) (take-blocks-at t) take-blocks.Post take-blocks-Inv-loop take-blocks-μ-loop) (j : ℕ) → j ≤ a .before .before .args .i → TellsNulls (block-nodes a) (block-nulls a) (j + 1)
+known-of t a j h = nulls-fewer (block-nodes a) (block-nulls a) (j + 1) (a .before .before .args .i + 1) (omega arith) (a .before .before .pre .1 .1 .1 .0)
 
 -- an opening stands here
 opening-here : (t : ℕ) (c : take-blocks-lts.Else1 (block-calls t) (take-blocks-at t) take-blocks.Post take-blocks-Inv-loop take-blocks-μ-loop) → c .before .before .loop .at < length (block-items (c .before .before))
 opening-here t c =
     let a = c .before .before in
     item-is (block-items a) (a .loop .at) (c .before .read-item .result) (a .before .before .args .i + 4096) (c .before .read-item .ensures) (c .if1 .left)
-    (omega (arith, a .before .before .pre .1 .0 .small)) .0
+    (omega (arith, few t a)) .0
 
 -- what the body takes
 taken : (t : ℕ) (c : take-blocks-lts.After-next (block-calls t) (take-blocks-at t) take-blocks.Post take-blocks-Inv-loop take-blocks-μ-loop) → let a = c .before .before .before .before .before in
-    TakesAt (block-nodes a) (block-items a) (a .before .before .args .s) (a .before .before .args .i - 1) (a .loop .at + 1) (To (c .next .given .0 .0))
+    EatsAt (block-nodes a) (block-items a) (a .before .before .args .s) (a .before .before .args .i - 1) (a .loop .at + 1) (To (c .next .given .0 .0))
     × ((a .loop .at + 1 ≤ c .next .given .0 .0) × (c .next .given .0 .0 ≤ length (block-items a)))
 taken t c =
     let d = c .before .before in
     let a = d .before .before .before in (
-      subst (TakesAt (block-nodes a) (block-items a) (a .before .before .args .s) (a .before .before .args .i - 1) (a .loop .at + 1)) (c .next .given .1) (d .take .ensures .1),
+      subst (EatsAt (block-nodes a) (block-items a) (a .before .before .args .s) (a .before .before .args .i - 1) (a .loop .at + 1)) (c .next .given .1) (d .take .ensures .1),
       subst (Onward (block-items a) (a .loop .at + 1)) (c .next .given .1) (d .take .ensures .0),
     )
 
@@ -360,34 +385,34 @@ closing-here t c =
     let x = c .before .before .before .before in
     let a = x .before .before .before .before .before in
     item-is (block-items a) (x .next .given .0 .0) (c .before .read-item2 .result) (a .before .before .args .i + 8192) (c .before .read-item2 .ensures) (c .if3 .left)
-    (omega (arith, a .before .before .pre .1 .0 .small)) .0
+    (omega (arith, few t a)) .0
 
 take-blocks-loop-holds : (t : ℕ) → take-blocks-lts.Need-loop-holds (block-calls t) (take-blocks-at t) take-blocks.Post take-blocks-Inv-loop take-blocks-μ-loop
 take-blocks-loop-holds t c =
     let b = c .before in
-    (omega arith, b .pre .1 .1 .0, omega arith, stay-starts (held (b .args .nodes .now)) (itemsIn (b .args .bytes .now)) (b .args .s) (b .args .i) (b .args .place))
+    (omega arith, b .pre .1 .1 .1 .1 .0, omega arith, stay-starts (held (b .args .nodes .now)) (itemsIn (b .args .bytes .now)) (b .args .s) (b .args .i) (b .args .place))
 
 take-blocks-read-item-requires : (t : ℕ) → take-blocks-lts.Need-read-item-requires (block-calls t) (take-blocks-at t) take-blocks.Post take-blocks-Inv-loop take-blocks-μ-loop
 take-blocks-read-item-requires t c κs = search needs
 
 take-blocks-add-if1 : (t : ℕ) → take-blocks-lts.Need-add-if1 (block-calls t) (take-blocks-at t) take-blocks.Post take-blocks-Inv-loop take-blocks-μ-loop
-take-blocks-add-if1 t c = omega (arith, c .before .before .before .pre .1 .0 .small)
+take-blocks-add-if1 t c = omega (arith, few t (c .before))
 
-take-blocks-mul-may-stop : (t : ℕ) → take-blocks-lts.Need-mul-may-stop (block-calls t) (take-blocks-at t) take-blocks.Post take-blocks-Inv-loop take-blocks-μ-loop
-take-blocks-mul-may-stop t c = omega (arith, c .before .before .before .before .pre .1 .0 .small)
+take-blocks-mul-may-have : (t : ℕ) → take-blocks-lts.Need-mul-may-have (block-calls t) (take-blocks-at t) take-blocks.Post take-blocks-Inv-loop take-blocks-μ-loop
+take-blocks-mul-may-have t c = omega (arith, few t (c .before .before))
 
-take-blocks-element-copy-out-may-stop : (t : ℕ) → take-blocks-lts.Need-element-copy-out-may-stop (block-calls t) (take-blocks-at t) take-blocks.Post take-blocks-Inv-loop take-blocks-μ-loop
-take-blocks-element-copy-out-may-stop t c = c .before .before .before .before .pre .1 .0 .small
+take-blocks-element-copy-out-may-have : (t : ℕ) → take-blocks-lts.Need-element-copy-out-may-have (block-calls t) (take-blocks-at t) take-blocks.Post take-blocks-Inv-loop take-blocks-μ-loop
+take-blocks-element-copy-out-may-have t c = few t (c .before .before)
 
-take-blocks-sub-may-stop : (t : ℕ) → take-blocks-lts.Need-sub-may-stop (block-calls t) (take-blocks-at t) take-blocks.Post take-blocks-Inv-loop take-blocks-μ-loop
-take-blocks-sub-may-stop t c = body t (c .before .before .before) .1
+take-blocks-sub-may-have : (t : ℕ) → take-blocks-lts.Need-sub-may-have (block-calls t) (take-blocks-at t) take-blocks.Post take-blocks-Inv-loop take-blocks-μ-loop
+take-blocks-sub-may-have t c = body t (c .before .before .before) .1
 
-take-blocks-element-copy-out-may-stop-2 :
-    (t : ℕ) → take-blocks-lts.Need-element-copy-out-may-stop-2 (block-calls t) (take-blocks-at t) take-blocks.Post take-blocks-Inv-loop take-blocks-μ-loop
-take-blocks-element-copy-out-may-stop-2 t c = omega (arith, c .before .before .before .before .before .pre .1 .0 .small)
+take-blocks-element-copy-out-may-have-2 :
+    (t : ℕ) → take-blocks-lts.Need-element-copy-out-may-have-2 (block-calls t) (take-blocks-at t) take-blocks.Post take-blocks-Inv-loop take-blocks-μ-loop
+take-blocks-element-copy-out-may-have-2 t c = omega (arith, few t (c .before .before .before))
 
-take-blocks-may-stop-requires : (t : ℕ) → take-blocks-lts.Need-may-stop-requires (block-calls t) (take-blocks-at t) take-blocks.Post take-blocks-Inv-loop take-blocks-μ-loop
-take-blocks-may-stop-requires t c κs = search needs
+take-blocks-may-have-requires : (t : ℕ) → take-blocks-lts.Need-may-have-requires (block-calls t) (take-blocks-at t) take-blocks.Post take-blocks-Inv-loop take-blocks-μ-loop
+take-blocks-may-have-requires t c κs = search needs
 
 take-blocks-to-if-requires : (t : ℕ) → take-blocks-lts.Need-to-if-requires (block-calls t) (take-blocks-at t) take-blocks.Post take-blocks-Inv-loop take-blocks-μ-loop
 take-blocks-to-if-requires t c κs = search needs
@@ -400,10 +425,11 @@ take-blocks-returns t c =
     let a = n .before in
     let b = a .before .before in
     let r = c .to-if .result in
-    let ends = ends-decided _ (m .may-stop .result) (a .loop .at) r (m .may-stop .ensures) (c .to-if .ensures) in (
+    let ends = ends-decided _ (m .may-have .result) (a .loop .at) r (m .may-have .ensures) (c .to-if .ensures) in (
       onward-ends _ (block-items a) (b .args .place) (a .loop .at) r (a .loop .inv .0) (a .loop .inv .1) ends,
-      stay-stops (block-nodes a) (block-items a) (b .args .s) (b .args .i) (b .args .place) (a .loop .k) (a .loop .at) (begins t a) (body t a .1) (b .pre .1 .0 .small)
-          (a .loop .inv .3) (kindOf (block-nodes a (b .args .i))) refl (b .pre .1 .1 .1) (block-nulls a) (n .read-item .result) r (body t a .0 .known) (n .read-item .ensures) (v .if1 .taken) ends,
+      stay-stops (block-nodes a) (block-items a) (b .args .s) (b .args .i) (b .args .place) (a .loop .k) (a .loop .at) (begins t a) (body t a .1) (few t a)
+          (a .loop .inv .3) (kindOf (block-nodes a (b .args .i))) refl (b .pre .1 .1 .1 .1 .1) _ (n .read-item .result) r
+          (null-told (block-nodes a) (block-nulls a) (b .args .i - 1 + 1) (b .args .i - 1) (known-of t a (b .args .i - 1) (omega arith)) (omega arith)) (n .read-item .ensures) (v .if1 .taken) ends,
     )
 
 take-blocks-sub-take : (t : ℕ) → take-blocks-lts.Need-sub-take (block-calls t) (take-blocks-at t) take-blocks.Post take-blocks-Inv-loop take-blocks-μ-loop
@@ -415,7 +441,10 @@ take-blocks-add-take t c = omega (arith, opening-here t c, items-length (c .befo
 take-blocks-take-requires : (t : ℕ) → take-blocks-lts.Need-take-requires (block-calls t) (take-blocks-at t) take-blocks.Post take-blocks-Inv-loop take-blocks-μ-loop
 take-blocks-take-requires t c κs =
     let a = c .before .before in
-    (omega (arith, body t a .1, a .before .before .pre .0), (body t a .0, omega (arith, opening-here t c)))
+    let i = a .before .before .args .i in (
+      omega (arith, body t a .1, a .before .before .pre .0),
+      (one-lower i (i - 1) (omega arith) (a .before .before .pre .1 .0), (body t a .0, (known-of t a (i - 1) (omega arith), omega (arith, opening-here t c)))),
+    )
 
 take-blocks-enum-known-next : (t : ℕ) → take-blocks-lts.Need-enum-known-next (block-calls t) (take-blocks-at t) take-blocks.Post take-blocks-Inv-loop take-blocks-μ-loop
 take-blocks-enum-known-next t c = search needs
@@ -429,10 +458,10 @@ take-blocks-returns-2 t c =
     let o = d .before in
     let a = o .before .before in
     let b = a .before .before in
-    let stuck = subst (TakesAt (block-nodes a) (block-items a) (b .args .s) (b .args .i - 1) (a .loop .at + 1)) (c .enum-told .given .1) (d .take .ensures .1) in (
+    let stuck = subst (EatsAt (block-nodes a) (block-items a) (b .args .s) (b .args .i - 1) (a .loop .at + 1)) (c .enum-told .given .1) (d .take .ensures .1) in (
       tt,
-      stuck-body (block-nodes a) (block-items a) (b .args .s) (b .args .i) (b .args .place) (a .loop .k) (a .loop .at) (begins t a) (body t a .1) (b .pre .1 .0 .small)
-          (a .loop .inv .3) (kindOf (block-nodes a (b .args .i))) refl (b .pre .1 .1 .1) (o .before .read-item .result) (o .before .read-item .ensures) (o .if1 .left) stuck,
+      stuck-body (block-nodes a) (block-items a) (b .args .s) (b .args .i) (b .args .place) (a .loop .k) (a .loop .at) (begins t a) (body t a .1) (few t a)
+          (a .loop .inv .3) (kindOf (block-nodes a (b .args .i))) refl (b .pre .1 .1 .1 .1 .1) (o .before .read-item .result) (o .before .read-item .ensures) (o .if1 .left) stuck,
     )
 
 take-blocks-add-if2 : (t : ℕ) → take-blocks-lts.Need-add-if2 (block-calls t) (take-blocks-at t) take-blocks.Post take-blocks-Inv-loop take-blocks-μ-loop
@@ -447,8 +476,8 @@ take-blocks-returns-3 t c =
     let a = o .before .before in
     let b = a .before .before in (
       tt,
-      stuck-event (block-nodes a) (block-items a) (b .args .s) (b .args .i) (b .args .place) (a .loop .k) (a .loop .at) (begins t a) (body t a .1) (b .pre .1 .0 .small)
-          (a .loop .inv .3) (kindOf (block-nodes a (b .args .i))) refl (b .pre .1 .1 .1) (o .before .read-item .result) (o .before .read-item .ensures) (o .if1 .left)
+      stuck-event (block-nodes a) (block-items a) (b .args .s) (b .args .i) (b .args .place) (a .loop .k) (a .loop .at) (begins t a) (body t a .1) (few t a)
+          (a .loop .inv .3) (kindOf (block-nodes a (b .args .i))) refl (b .pre .1 .1 .1 .1 .1) (o .before .read-item .result) (o .before .read-item .ensures) (o .if1 .left)
           (x .next .given .0 .0) (c .if2 .taken) (taken t x .0),
     )
 
@@ -456,7 +485,7 @@ take-blocks-read-item-requires-2 : (t : ℕ) → take-blocks-lts.Need-read-item-
 take-blocks-read-item-requires-2 t c κs = search needs
 
 take-blocks-add-if3 : (t : ℕ) → take-blocks-lts.Need-add-if3 (block-calls t) (take-blocks-at t) take-blocks.Post take-blocks-Inv-loop take-blocks-μ-loop
-take-blocks-add-if3 t c = omega (arith, c .before .before .before .before .before .before .before .before .before .before .pre .1 .0 .small)
+take-blocks-add-if3 t c = omega (arith, few t (c .before .before .before .before .before .before .before .before))
 
 take-blocks-returns-4 : (t : ℕ) → take-blocks-lts.Need-returns-4 (block-calls t) (take-blocks-at t) take-blocks.Post take-blocks-Inv-loop take-blocks-μ-loop
 take-blocks-returns-4 t c =
@@ -465,8 +494,8 @@ take-blocks-returns-4 t c =
     let a = o .before .before in
     let b = a .before .before in (
       tt,
-      stuck-closing (block-nodes a) (block-items a) (b .args .s) (b .args .i) (b .args .place) (a .loop .k) (a .loop .at) (begins t a) (body t a .1) (b .pre .1 .0 .small)
-          (a .loop .inv .3) (kindOf (block-nodes a (b .args .i))) refl (b .pre .1 .1 .1) (o .before .read-item .result) (o .before .read-item .ensures) (o .if1 .left)
+      stuck-closing (block-nodes a) (block-items a) (b .args .s) (b .args .i) (b .args .place) (a .loop .k) (a .loop .at) (begins t a) (body t a .1) (few t a)
+          (a .loop .inv .3) (kindOf (block-nodes a (b .args .i))) refl (b .pre .1 .1 .1 .1 .1) (o .before .read-item .result) (o .before .read-item .ensures) (o .if1 .left)
           (x .next .given .0 .0) (c .before .read-item2 .result) (taken t x .0) (c .before .read-item2 .ensures) (c .if3 .taken),
     )
 
@@ -500,7 +529,7 @@ take-blocks-loop-again t c =
       omega (arith, a .loop .inv .0, went .1 .0),
       omega (arith, last),
       omega (arith, a .loop .inv .2, went .1 .0),
-      stay-goes (block-nodes a) (block-items a) (b .args .s) (b .args .i) (b .args .place) (a .loop .k) (a .loop .at) (begins t a) (body t a .1) (b .pre .1 .0 .small)
+      stay-goes (block-nodes a) (block-items a) (b .args .s) (b .args .i) (b .args .place) (a .loop .k) (a .loop .at) (begins t a) (body t a .1) (few t a)
           (a .loop .inv .3) (o .before .read-item .result) (o .before .read-item .ensures) (o .if1 .left) next (c .before .read-item2 .result) (went .1 .1) (went .0)
           (c .before .before .if2 .left) (c .before .read-item2 .ensures) (c .if3 .left),
     )
@@ -549,11 +578,11 @@ pub +take+take-blocks-spec : {M : Type 1} → statement M
     (take-blocks-loop-holds t)
     (take-blocks-read-item-requires t)
     (take-blocks-add-if1 t)
-    (take-blocks-mul-may-stop t)
-    (take-blocks-element-copy-out-may-stop t)
-    (take-blocks-sub-may-stop t)
-    (take-blocks-element-copy-out-may-stop-2 t)
-    (take-blocks-may-stop-requires t)
+    (take-blocks-mul-may-have t)
+    (take-blocks-element-copy-out-may-have t)
+    (take-blocks-sub-may-have t)
+    (take-blocks-element-copy-out-may-have-2 t)
+    (take-blocks-may-have-requires t)
     (take-blocks-to-if-requires t)
     (take-blocks-returns t)
     (take-blocks-sub-take t)

@@ -27,6 +27,9 @@ add-two-at c = search needs
 two-at-requires : tie.Need-two-at-requires Inv-loop μ-loop
 two-at-requires c κs = search needs
 
+cast-counts : tie.Need-cast-counts Inv-loop μ-loop
+cast-counts c = search needs
+
 mul-counts : tie.Need-mul-counts Inv-loop μ-loop
 mul-counts c = search needs
 
@@ -45,21 +48,18 @@ loop-again c =
     let bytes = at .before .before .args .bytes .now in (
       search needs,
       length-set (at .loop .counts) (at .loop .j) (c .two-at .result) ∙ at .loop .inv .1,
-      read-more bytes (at .loop .counts) (at .loop .j) (c .two-at .result) (omega arith) (c .two-at .ensures) (at .loop .inv .2),
+      read-more bytes (at .loop .counts) (at .loop .j) (c .two-at .result) (omega arith) (c .two-at .ensures .0) (at .loop .inv .2),
     )
 
 two-at-requires-2 : tie.Need-two-at-requires-2 Inv-loop μ-loop
 two-at-requires-2 c κs = search needs
-
-cast-result : tie.Need-cast-result Inv-loop μ-loop
-cast-result c = search needs
 
 returns : tie.Need-returns Inv-loop μ-loop
 returns c =
     let at = c .before .before in
     let start = at .before .before in
     read-decoded (start .args .bytes .now) (at .loop .counts) (λ k. at .before .shared-slice-known .given k .fits) (at .loop .inv .1)
-    (subst (Read (start .args .bytes .now) (at .loop .counts)) (omega arith) (at .loop .inv .2)) (start .pre .0) _ (c .two-at2 .ensures)
+    (subst (Read (start .args .bytes .now) (at .loop .counts)) (omega arith) (at .loop .inv .2)) (start .pre .0) _ (c .two-at2 .ensures .0)
 
 pub decode-spec : {M : Type 1} → statement M
 decode-spec =
@@ -71,11 +71,11 @@ decode-spec =
     mul-two-at
     add-two-at
     two-at-requires
+    cast-counts
     mul-counts
     element-write-counts
     add-j
     loop-less
     loop-again
     two-at-requires-2
-    cast-result
     returns)

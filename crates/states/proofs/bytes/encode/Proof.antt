@@ -1,5 +1,5 @@
 -- `states::bytes::encode` meets its contract. The loop's invariant: the bytes hold the node and the first j counters. Assumes nothing.
-use mathlib.Core.Path.{_≡_, refl, sym, ap, subst}
+use mathlib.Core.Path.{_≡_, refl, sym, ap, subst, _∙_}
 use mathlib.Core.List.{_∷_}
 use Prim.Native.Nat.{ℕ, suc, _+_, _≤_, _-_}
 use native.Mathlib.Omega.{arith}
@@ -16,9 +16,6 @@ Inv-loop node counts bytes₀ j₀ bytes j =
 
 abbrev μ-loop : tie.MeasureT-loop
 μ-loop node counts bytes₀ j₀ bytes j = 32 - j
-
-cast-put-two : tie.Need-cast-put-two Inv-loop μ-loop
-cast-put-two c = search needs
 
 put-two-requires : tie.Need-put-two-requires Inv-loop μ-loop
 put-two-requires c κs = search needs
@@ -40,11 +37,14 @@ mul-put-two c = search needs
 add-put-two : tie.Need-add-put-two Inv-loop μ-loop
 add-put-two c = search needs
 
-mul-put-two-2 : tie.Need-mul-put-two-2 Inv-loop μ-loop
-mul-put-two-2 c = search needs
+mul-wide : tie.Need-mul-wide Inv-loop μ-loop
+mul-wide c = search needs
 
-element-copy-out-put-two : tie.Need-element-copy-out-put-two Inv-loop μ-loop
-element-copy-out-put-two c = search needs
+element-copy-out-wide : tie.Need-element-copy-out-wide Inv-loop μ-loop
+element-copy-out-wide c = search needs
+
+wide-requires : tie.Need-wide-requires Inv-loop μ-loop
+wide-requires c κs = search needs
 
 put-two-requires-2 : tie.Need-put-two-requires-2 Inv-loop μ-loop
 put-two-requires-2 c κs = search needs
@@ -58,14 +58,16 @@ loop-less c = search needs
 loop-again : tie.Need-loop-again Inv-loop μ-loop
 loop-again c =
     let put = c .before .before in
-    let at = put .before .before .before .before in
+    let wide = put .before in
+    let at = wide .before .before .before .before in
     let start = at .before .before .before .before .before .before in
     let numbers = start .args .node ∷ start .args .counts .now in
     let next : suc (at .loop .j) ≡ at .loop .j + 1 = omega arith in (
       search needs,
       omega (arith, put .put-two2 .kept .0),
       subst (λ bytes. Filled bytes numbers (at .loop .j + 1 + 1)) (sym (put .put-two2 .ensures))
-          (filled-more (at .loop .bytes) numbers (at .loop .j + 1) _ _ (omega arith) (omega arith) (ap (λ (k : ℕ). getD numbers k 0) next) (at .loop .inv .2)),
+          (filled-more (at .loop .bytes) numbers (at .loop .j + 1) _ _ (omega arith) (omega arith)
+          (wide .wide .ensures ∙ ap (λ (k : ℕ). getD numbers k 0) next) (at .loop .inv .2)),
     )
 
 same-length : tie.Need-same-length Inv-loop μ-loop
@@ -84,13 +86,13 @@ encode-spec =
     (tie.spec
     Inv-loop
     μ-loop
-    cast-put-two
     put-two-requires
     loop-holds
     mul-put-two
     add-put-two
-    mul-put-two-2
-    element-copy-out-put-two
+    mul-wide
+    element-copy-out-wide
+    wide-requires
     put-two-requires-2
     add-j
     loop-less

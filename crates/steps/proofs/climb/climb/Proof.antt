@@ -10,10 +10,11 @@ use Rattle.steps.proofs.climb.climb.Statement.{statement}
 use Rattle.steps.proofs.climb.climb.Tie as tie
 
 abbrev Inv-loop : tie.InvT-loop
-Inv-loop nodes plan n counts p q x₀ x = (1 ≤ x) × ((r : Turn) → Climbs nodes plan counts n q x r → Climbs nodes plan counts n q (aboveAt plan p) r)
+Inv-loop nodes starts nulls plan n counts p q x₀ x =
+    (1 ≤ x) × ((r : Turn) → Climbs nodes starts nulls plan counts n q x r → Climbs nodes starts nulls plan counts n q (aboveAt plan p) r)
 
 abbrev μ-loop : tie.MeasureT-loop
-μ-loop nodes plan n counts p q x₀ x = n - x
+μ-loop nodes starts nulls plan n counts p q x₀ x = n - x
 
 mul-above-of : tie.Need-mul-above-of Inv-loop μ-loop
 mul-above-of c = search needs
@@ -29,7 +30,7 @@ loop-holds c =
     let start = c .before .before in
     let a = start .args in
     let up = start .pre .1 .1 (a .p) (start .pre .1 .0) in
-    (omega (arith, c .above-of .ensures .0), λ r. subst (λ (y : ℕ). Climbs (a .nodes .now) (a .plan .now) (a .counts .now) (a .n) (a .q) y r) (c .above-of .ensures .0))
+    (omega (arith, c .above-of .ensures .0), λ r. subst (λ (y : ℕ). Climbs (a .nodes .now) (a .starts .now) (a .nulls .now) (a .plan .now) (a .counts .now) (a .n) (a .q) y r) (c .above-of .ensures .0))
 
 look-at-requires : tie.Need-look-at-requires Inv-loop μ-loop
 look-at-requires c κs =
@@ -81,7 +82,7 @@ loop-again c =
       λ r w.
           look .before .before .loop .inv .1 r
           (on (look .before .loop-test .taken) (sym (look .look-at .ensures) ∙ c .before .before .enum-told3 .given .1)
-          (subst (λ (y : ℕ). Climbs (a .nodes .now) (a .plan .now) (a .counts .now) (a .n) (a .q) y r) (c .above-of2 .ensures .0) w)),
+          (subst (λ (y : ℕ). Climbs (a .nodes .now) (a .starts .now) (a .nulls .now) (a .plan .now) (a .counts .now) (a .n) (a .q) y r) (c .above-of2 .ensures .0) w)),
     )
 
 returns-3 : tie.Need-returns-3 Inv-loop μ-loop

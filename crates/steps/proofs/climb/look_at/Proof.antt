@@ -6,8 +6,8 @@ use borrow.Author.Needs.{needs}
 use borrow.Author.Tests.{eq-eqb, ne-eqb}
 use lib.ListN.{getD}
 use Rattle.procedure.specs.Entry.{held}
-use Rattle.steps.specs.Climb.{lookRepeat}
 use Rattle.plan.proofs.Tests.{left, taken-as}
+use Rattle.steps.specs.Climb.{lookRepeat}
 use Rattle.steps.proofs.climb.look_at.Statement.{statement}
 use Rattle.steps.proofs.climb.look_at.Tie as tie
 
@@ -57,7 +57,8 @@ returns-2 c =
     let rank = c .before .before .rank-of .ensures .0 in
     let kind = c .before .before .before .before .before .kind-of .ensures in
     taken-as _ _ _ _ (eq-eqb _ _ (sym kind ∙ c .before .before .before .before .if1 .left))
-    (c .look-repeat .ensures ∙ ap (λ (j : ℕ). lookRepeat (held (a .nodes .now) (a .x)) (a .plan .now) (getD (a .counts .now) j 0) (a .x - 1) (a .q)) rank)
+    (c .look-repeat .ensures
+    ∙ ap (λ (j : ℕ). lookRepeat (held (a .nodes .now) (a .x)) (a .starts .now) (a .nulls .now) (a .plan .now) (getD (a .counts .now) j 0) (a .x - 1) (a .q)) rank)
 
 pub look-at-spec : {M : Type 1} → statement M
 look-at-spec =

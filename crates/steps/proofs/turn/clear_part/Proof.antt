@@ -6,14 +6,14 @@ use Rattle.steps.proofs.Tests.{cleared-as}
 use Rattle.steps.proofs.turn.clear_part.Statement.{statement}
 use Rattle.steps.proofs.turn.clear_part.Tie as tie
 
-mul-start-of : tie.Need-mul-start-of
-mul-start-of c = search needs
+mul-wide : tie.Need-mul-wide
+mul-wide c = search needs
 
-element-copy-out-start-of : tie.Need-element-copy-out-start-of
-element-copy-out-start-of c = search needs
+element-copy-out-wide : tie.Need-element-copy-out-wide
+element-copy-out-wide c = search needs
 
-start-of-requires : tie.Need-start-of-requires
-start-of-requires c κs = search needs
+wide-requires : tie.Need-wide-requires
+wide-requires c κs = search needs
 
 mul-rank-of : tie.Need-mul-rank-of
 mul-rank-of c = search needs
@@ -38,17 +38,18 @@ clear-requires c κs = search needs
 
 returns : tie.Need-returns
 returns c =
-    let start = c .before .before .before .before .before .before in
-    let a = start .before .before .args in
-    cleared-as (c .before .before .before .rank-of .ensures .0 ∙ ap (rankAt (a .plan .now)) (start .start-of .ensures .0)) (c .before .rank-of2 .ensures .0) (c .clear .ensures)
+    let k = c .before in
+    let w = k .before .before .before .before .before in
+    let a = w .before .before .args in
+    cleared-as (k .before .before .rank-of .ensures .0 ∙ ap (rankAt (a .plan .now)) (w .wide .ensures)) (k .rank-of2 .ensures .0) (c .clear .ensures)
 
 pub clear-part-spec : {M : Type 1} → statement M
 clear-part-spec =
     tie.close
     (tie.spec
-    mul-start-of
-    element-copy-out-start-of
-    start-of-requires
+    mul-wide
+    element-copy-out-wide
+    wide-requires
     mul-rank-of
     element-copy-out-rank-of
     rank-of-requires

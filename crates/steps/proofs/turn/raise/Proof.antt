@@ -16,7 +16,7 @@ kind-of-requires : tie.Need-kind-of-requires
 kind-of-requires c κs = search needs
 
 returns : tie.Need-returns
-returns c = let a = c .before .before .before .args in raised-not (a .nodes .now) (a .plan .now) _ (a .x) (λ e. c .if1 .taken (c .before .kind-of .ensures ∙ e))
+returns c = let a = c .before .before .before .args in raised-not (a .nodes .now) (a .nulls .now) (a .plan .now) _ (a .x) (λ e. c .if1 .taken (c .before .kind-of .ensures ∙ e))
 
 mul-rank-of : tie.Need-mul-rank-of
 mul-rank-of c = search needs
@@ -27,24 +27,18 @@ element-copy-out-rank-of c = search needs
 rank-of-requires : tie.Need-rank-of-requires
 rank-of-requires c κs = search needs
 
-sub-empty-of : tie.Need-sub-empty-of
-sub-empty-of c = search needs
+sub-one-more : tie.Need-sub-one-more
+sub-one-more c = search needs
 
-mul-empty-of : tie.Need-mul-empty-of
-mul-empty-of c = search needs
-
-element-copy-out-empty-of : tie.Need-element-copy-out-empty-of
-element-copy-out-empty-of c = search needs
-
-empty-of-requires : tie.Need-empty-of-requires
-empty-of-requires c κs = search needs
+element-copy-out-one-more : tie.Need-element-copy-out-one-more
+element-copy-out-one-more c = search needs
 
 mul-one-more : tie.Need-mul-one-more
 mul-one-more c = search needs
 
-element-copy-out-one-more : tie.Need-element-copy-out-one-more
-element-copy-out-one-more c =
-    let rank = c .before .before in
+element-copy-out-one-more-2 : tie.Need-element-copy-out-one-more-2
+element-copy-out-one-more-2 c =
+    let rank = c .before in
     let start = rank .before .before .before .before .before in
     omega (arith, rank .rank-of .ensures .0, start .pre .1 .1 (sym (rank .before .before .before .kind-of .ensures) ∙ rank .before .before .if1 .left))
 
@@ -56,18 +50,17 @@ mul-counts c = search needs
 
 element-write-counts : tie.Need-element-write-counts
 element-write-counts c =
-    let rank = c .before .before .before .before in
+    let rank = c .before .before .before in
     let start = rank .before .before .before .before .before in
     omega (arith, rank .rank-of .ensures .0, start .pre .1 .1 (sym (rank .before .before .before .kind-of .ensures) ∙ rank .before .before .if1 .left))
 
 returns-2 : tie.Need-returns-2
 returns-2 c =
-    let rank = c .before .before .before .before in
+    let rank = c .before .before .before in
     let a = rank .before .before .before .before .before .args in
-    raised-there (a .nodes .now) (a .plan .now) (a .counts .now) (a .x) _ _ _
+    raised-there (a .nodes .now) (a .nulls .now) (a .plan .now) (a .counts .now) (a .x) _ _
     (sym (rank .before .before .before .kind-of .ensures) ∙ rank .before .before .if1 .left)
     (rank .rank-of .ensures .0)
-    (c .before .before .empty-of .ensures .0)
     (c .one-more .ensures)
 
 pub raise-spec : {M : Type 1} → statement M
@@ -81,12 +74,10 @@ raise-spec =
     mul-rank-of
     element-copy-out-rank-of
     rank-of-requires
-    sub-empty-of
-    mul-empty-of
-    element-copy-out-empty-of
-    empty-of-requires
-    mul-one-more
+    sub-one-more
     element-copy-out-one-more
+    mul-one-more
+    element-copy-out-one-more-2
     one-more-requires
     mul-counts
     element-write-counts

@@ -5,16 +5,16 @@ use native.Mathlib.Omega.{arith}
 use borrow.Author.Needs.{needs}
 use Rattle.meaning.specs.Node.{Node}
 use Rattle.procedure.specs.Entry.{held}
-use Rattle.procedure.proofs.Nodes.{event-kept}
+use Rattle.procedure.proofs.Nodes.{event-kept, one-in-table, one-ordered, one-small}
 use Rattle.write.proofs.Beginnings.{first-empty, first-event, first-repeat, first-left, first-united}
-use Rattle.procedure.proofs.Standing.{at-pair, last-order}
+use Rattle.procedure.proofs.Standing.{last-order, left-lower}
 use Rattle.write.proofs.firsts.first_at.Statement.{statement}
 use Rattle.write.proofs.firsts.first_at.Tie as tie
 
 -- ---- what is known of the node once its kind is read
 
 abbrev start : tie.After-kind-of → tie.Start
-start k = k .before .before
+start k = k .before .before .before
 
 abbrev nodes : tie.After-kind-of → ℕ → Node
 nodes k = held (start k .args .nodes .now)
@@ -26,15 +26,17 @@ inner m = omega (arith, m .before .if1 .left, m .if2 .left)
 some : (m : tie.Else2) → 1 ≤ start (m .before .before) .args .i
 some m =
     let k = m .before .before in
-    last-order (nodes k) (start k .args .i) (k .kind-of .result) (k .kind-of .ensures) (inner m) (start k .pre .1 .0) .1
+    last-order (nodes k) (start k .args .i) (k .kind-of .result) (k .kind-of .ensures) (inner m) (one-ordered (start k .args .i) (start k .pre .1 .0)) .1
 
 left-below : (m : tie.After-left-of) → m .left-of .result < start (m .before .before .before .before .before) .args .i
 left-below m =
     let e = m .before .before .before in
     let k = e .before .before in
-    let o = start k .pre .1 .0 in
-    at-pair _ (nodes k) (o .0) (start k .args .i) (k .kind-of .result) (m .left-of .result) (k .kind-of .ensures) (m .left-of .ensures)
-    (inner e) (m .before .if3 .left) (λ x y p. omega (arith, p .next, p .here)) (o .1, o .2, o .3)
+    left-lower (nodes k) (start k .args .i) (k .kind-of .result) (m .left-of .result) (k .kind-of .ensures) (m .left-of .ensures) (inner e)
+    (m .before .if3 .left) (one-ordered (start k .args .i) (start k .pre .1 .0))
+
+small : (m : tie.After-left-of) → start (m .before .before .before .before .before) .args .i < 512
+small m = let a = start (m .before .before .before .before .before) in one-small (a .args .i) (a .pre .1 .0)
 
 mul-entry : tie.Need-mul-entry
 mul-entry c = search needs
@@ -59,7 +61,7 @@ code-of-requires c κs = search needs
 one-requires : tie.Need-one-requires
 one-requires c κs =
     let k = c .before .before .before in
-    let small = event-kept (nodes k (start k .args .i)) (start k .pre .1 .1 .0) (sym (k .kind-of .ensures) ∙ c .before .if2 .taken) in
+    let small = event-kept (nodes k (start k .args .i)) (one-in-table (start k .args .i) (start k .pre .1 .0)) (sym (k .kind-of .ensures) ∙ c .before .if2 .taken) in
     omega (arith, small, c .code-of .ensures)
 
 returns-2 : tie.Need-returns-2
@@ -74,26 +76,26 @@ sub-last c = some c
 mul-last : tie.Need-mul-last
 mul-last c = search needs
 
-element-copy-out-last : tie.Need-element-copy-out-last
-element-copy-out-last c = search needs
+shared-slice-read-last : tie.Need-shared-slice-read-last
+shared-slice-read-last c = omega (arith, some (c .before))
 
 returns-3 : tie.Need-returns-3
 returns-3 c =
     let e = c .before .before in
     let k = e .before .before in
-    first-repeat (nodes k) (start k .args .i) (k .kind-of .result) (k .kind-of .ensures) (start k .args .firsts .now) (start k .pre .1 .1 .1 .1) (some e) (c .if3 .taken)
+    first-repeat (nodes k) (start k .args .i) (k .kind-of .result) (k .kind-of .ensures) (start k .args .firsts .now) (start k .pre .1 .1 .1) (some e) (c .if3 .taken)
 
 left-of-requires : tie.Need-left-of-requires
 left-of-requires c κs = search needs
 
 element-copy-out-if4 : tie.Need-element-copy-out-if4
-element-copy-out-if4 c = omega (arith, left-below c)
+element-copy-out-if4 c = omega (arith, left-below c, small c)
 
 mul-union : tie.Need-mul-union
-mul-union c = omega (arith, left-below (c .before .before))
+mul-union c = omega (arith, left-below (c .before .before), small (c .before .before))
 
-element-copy-out-union : tie.Need-element-copy-out-union
-element-copy-out-union c = omega (arith, left-below (c .before .before))
+shared-slice-read-union : tie.Need-shared-slice-read-union
+shared-slice-read-union c = omega (arith, left-below (c .before .before .before))
 
 union-requires : tie.Need-union-requires
 union-requires c κs = search needs
@@ -104,15 +106,15 @@ returns-4 c =
     let m = t .before .before in
     let e = m .before .before .before in
     let k = e .before .before in
-    first-united (nodes k) (start k .args .i) (k .kind-of .result) (k .kind-of .ensures) (start k .args .firsts .now) (start k .pre .1 .1 .1 .1) (some e)
-    (start k .args .nulls .now) (start k .pre .1 .1 .1 .0) (m .left-of .result) (m .left-of .ensures) (inner e) (m .before .if3 .left) _ (c .union .ensures .0)
+    first-united (nodes k) (start k .args .i) (k .kind-of .result) (k .kind-of .ensures) (start k .args .firsts .now) (start k .pre .1 .1 .1) (some e)
+    (start k .args .nulls .now) (start k .pre .1 .1 .0) (m .left-of .result) (m .left-of .ensures) (inner e) (m .before .if3 .left) _ (c .union .ensures .0)
     (t .if4 .taken)
 
 mul-result : tie.Need-mul-result
-mul-result c = omega (arith, left-below (c .before .before))
+mul-result c = omega (arith, left-below (c .before .before), small (c .before .before))
 
-element-copy-out-result : tie.Need-element-copy-out-result
-element-copy-out-result c = omega (arith, left-below (c .before .before))
+shared-slice-read-result : tie.Need-shared-slice-read-result
+shared-slice-read-result c = omega (arith, left-below (c .before .before .before))
 
 returns-5 : tie.Need-returns-5
 returns-5 c =
@@ -120,8 +122,8 @@ returns-5 c =
     let m = t .before .before in
     let e = m .before .before .before in
     let k = e .before .before in
-    first-left (nodes k) (start k .args .i) (k .kind-of .result) (k .kind-of .ensures) (start k .args .firsts .now) (start k .pre .1 .1 .1 .1) (some e)
-    (start k .args .nulls .now) (start k .pre .1 .1 .1 .0) (m .left-of .result) (m .left-of .ensures) (inner e) (m .before .if3 .left) (t .if4 .left)
+    first-left (nodes k) (start k .args .i) (k .kind-of .result) (k .kind-of .ensures) (start k .args .firsts .now) (start k .pre .1 .1 .1) (some e)
+    (start k .args .nulls .now) (start k .pre .1 .1 .0) (m .left-of .result) (m .left-of .ensures) (inner e) (m .before .if3 .left) (t .if4 .left)
 
 pub first-at-spec : {M : Type 1} → statement M
 first-at-spec =
@@ -137,14 +139,14 @@ first-at-spec =
     returns-2
     sub-last
     mul-last
-    element-copy-out-last
+    shared-slice-read-last
     returns-3
     left-of-requires
     element-copy-out-if4
     mul-union
-    element-copy-out-union
+    shared-slice-read-union
     union-requires
     returns-4
     mul-result
-    element-copy-out-result
+    shared-slice-read-result
     returns-5)

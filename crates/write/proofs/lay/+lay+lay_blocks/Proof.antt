@@ -8,20 +8,25 @@ use Prim.Native.Nat.{ℕ, _+_, _-_, _*_, _≤_, _<_}
 use native.Mathlib.Omega.{arith}
 use lib.ListN.{length, getD}
 use borrow.Author.Needs.{needs}
-use borrow.Author.Tests.{not-true, not-false}
 use borrow.Fn.Kinds.{In}
 use borrow.Fn.PlainCycle.{Measures, is, falls, and}
 use Rattle.meaning.specs.Expr.{Within}
 use Rattle.meaning.specs.Node.{Node, bound}
 use Rattle.procedure.specs.Entry.{held, kindOf, upperOf}
+use Rattle.procedure.specs.Listing.{OneOf, TellsNulls}
+use Rattle.procedure.specs.Tests.{Decides}
+use Rattle.procedure.proofs.Deciding.{fails, holds}
+use Rattle.procedure.proofs.Empties.{null-told}
+use Rattle.procedure.proofs.Nodes.{one-ordered, one-small}
+use Rattle.procedure.proofs.Standing.{last-order, left-lower}
 use Rattle.write.specs.declared.lay.Laid.{Laid}
-use Rattle.write.specs.declared.lay.Laid.the-variants.{To, Stuck}
+use Rattle.write.specs.declared.lay.Laid.the-variants.{To, Unlaid}
 use Rattle.record.specs.Put.{putAt}
-use Rattle.write.specs.Lay.{LaysAt, NextIn, Onward, Ready, Room, reach}
-use Rattle.write.proofs.LaidStays.{StayAt, stay-starts, stay-goes, stay-stops, stuck-body, stuck-event}
-use Rattle.write.proofs.Laying.{ends-decided, onward-ends, onward-further, onward-wide, room-narrow, room-further, ready-left, ready-right, ready-body, pass-by, leaf-lays, choice-goes-left, choice-goes-right, sequence-goes, sequence-stuck}
+use Rattle.write.specs.Lay.{Advances, FirstAt, LaysAt, Leeway, NextIn, TellsFirsts, reach}
+use Rattle.write.proofs.Beginnings.{first-told, known-lower}
+use Rattle.write.proofs.LaidStays.{DwellsAt, dwell-starts, dwell-goes, dwell-stops, unlaid-body, unlaid-event}
+use Rattle.write.proofs.Laying.{halts-decided, advances-halts, advances-further, advances-wide, leeway-narrow, leeway-further, pass-by, leaf-lays, choice-goes-left, choice-goes-right, sequence-goes, sequence-unlaid}
 use Rattle.write.proofs.Reaches.{reach-over, reach-event, reach-wide, reach-open, reach-close}
-use Rattle.record.proofs.Walks.{decided, denied}
 use Rattle.write.proofs.lay.lay.Reads as lay
 use Rattle.write.proofs.lay.lay.Kinds as lay-kinds
 use Rattle.write.proofs.lay.+lay+lay_blocks.Lts-lay as lay-lts
@@ -34,7 +39,7 @@ use Rattle.record.proofs.items.put.Reads as put-reads
 use Rattle.write.proofs.lay.another.Reads as another-reads
 use Rattle.write.proofs.lay.next_in.Reads as next-in-reads
 use Rattle.write.proofs.lay.to_if.Reads as to-if-reads
-use Rattle.record.proofs.walk.may_stop.Reads as may-stop-reads
+use Rattle.procedure.proofs.bounds.may_have.Reads as may-have-reads
 use Rattle.write.proofs.lay.+lay+lay_blocks.{statement}
 use Rattle.write.proofs.lay.+lay+lay_blocks.Tie.{close}
 
@@ -81,8 +86,8 @@ abbrev block-calls : ℕ → lay-blocks-lts.Claims
 block-calls t = (
   another-reads.Asked,
   another-reads.Learnt,
-  may-stop-reads.Asked,
-  may-stop-reads.Learnt,
+  may-have-reads.Asked,
+  may-have-reads.Learnt,
   to-if-reads.Asked,
   to-if-reads.Learnt,
   put-reads.Asked,
@@ -93,7 +98,7 @@ block-calls t = (
 
 abbrev lay-Inv-loop : lay-lts.InvT-loop
 lay-Inv-loop nodes nulls firsts run space₀ node event item i₀ at₀ to₀ space i at to =
-    Ready (held nodes) nulls firsts i × Room run i at to × (i ≤ node) × (event ≤ at) × (reach run node at to ≤ reach run node event item)
+    Leeway run i at to × (i ≤ node) × (event ≤ at) × (reach run node at to ≤ reach run node event item)
     × (length space ≡ length space₀)
     × ((r : Laid) (after : List ℕ) → LaysAt (held nodes) run space i at to r after → LaysAt (held nodes) run space₀ node event item r after)
 
@@ -113,80 +118,92 @@ lay-firsts a = a .before .before .before .args .firsts .now
 abbrev lay-run : {t : ℕ} → lay-lts.At-loop (lay-calls t) (lay-at t) lay.Post lay-Inv-loop lay-μ-loop → List ℕ
 lay-run a = a .before .before .before .args .run .now
 
+-- where an event is put, the next code was found
+abbrev found : {t : ℕ} → lay-lts.After-put (lay-calls t) (lay-at t) lay.Post lay-Inv-loop lay-μ-loop → lay-lts.Else1 (lay-calls t) (lay-at t) lay.Post lay-Inv-loop lay-μ-loop
+found p = p .before .before .before .before .before
+
 -- what the rest of the part lays, the whole does
 whole : (t : ℕ) (a : lay-lts.At-loop (lay-calls t) (lay-at t) lay.Post lay-Inv-loop lay-μ-loop) (r : Laid) (after : List ℕ)
-    → Onward (lay-run a) (a .loop .i) (a .loop .at) (a .loop .to) r
+    → Advances (lay-run a) (a .loop .i) (a .loop .at) (a .loop .to) r
     → LaysAt (lay-nodes a) (lay-run a) (a .loop .space) (a .loop .i) (a .loop .at) (a .loop .to) r after
     → let b = a .before .before .before .args in
-    Onward (lay-run a) (b .node) (b .event) (b .item) r × LaysAt (lay-nodes a) (lay-run a) (b .space .now) (b .node) (b .event) (b .item) r after
+    Advances (lay-run a) (b .node) (b .event) (b .item) r × LaysAt (lay-nodes a) (lay-run a) (b .space .now) (b .node) (b .event) (b .item) r after
 whole t a r after o lays =
     let b = a .before .before .before .args in
     let n = a .loop in (
-      onward-further (lay-run a) (b .node) (b .event) (b .item) (n .at) (n .to) r (n .inv .3) (n .inv .4)
-          (onward-wide (lay-run a) (b .node) (n .at) (n .to) (n .i) r (n .inv .2) o),
-      n .inv .6 r after lays,
+      advances-further (lay-run a) (b .node) (b .event) (b .item) (n .at) (n .to) r (n .inv .2) (n .inv .3)
+          (advances-wide (lay-run a) (b .node) (n .at) (n .to) (n .i) r (n .inv .1) o),
+      n .inv .5 r after lays,
     )
 
 -- the next code is in first of the part
 next-here : (t : ℕ) (c : lay-lts.Else1 (lay-calls t) (lay-at t) lay.Post lay-Inv-loop lay-μ-loop)
     → let a = c .before .before .before in NextIn (getD (lay-firsts a) (a .loop .i) 0) (lay-run a) (a .loop .at)
-next-here t c = decided _ (c .before .next-in .result) (c .before .next-in .ensures) (not-false _ (c .if1 .left))
+next-here t c = holds _ (c .before .next-in .result) (c .before .next-in .ensures) (c .if1 .left)
 
--- the parts of a node with two children
-left-ready : (t : ℕ) (c : lay-lts.After-left-of (lay-calls t) (lay-at t) lay.Post lay-Inv-loop lay-μ-loop)
-    → let a = c .before .before .before .before .before .before .before .before in
-    Ready (lay-nodes a) (lay-nulls a) (lay-firsts a) (c .left-of .result) × (c .left-of .result < a .loop .i)
-left-ready t c =
+-- what is known of the node that the loop is at, and of every lower one
+known : (t : ℕ) (a : lay-lts.At-loop (lay-calls t) (lay-at t) lay.Post lay-Inv-loop lay-μ-loop) (j : ℕ) → j ≤ a .loop .i
+    → OneOf (a .before .before .before .args .nodes .now) j × TellsNulls (lay-nodes a) (lay-nulls a) (j + 1) × TellsFirsts (lay-nodes a) (lay-firsts a) (j + 1)
+known t a j h =
+    let b = a .before .before .before in
+    known-lower (b .args .nodes .now) (lay-nulls a) (lay-firsts a) (b .args .node) j (omega (arith, a .loop .inv .1)) (b .pre .1 .0) (b .pre .1 .1 .0) (b .pre .1 .1 .1 .0)
+
+small : (t : ℕ) (a : lay-lts.At-loop (lay-calls t) (lay-at t) lay.Post lay-Inv-loop lay-μ-loop) → a .loop .i < 512
+small t a = one-small (a .loop .i) (known t a (a .loop .i) (omega arith) .0)
+
+begins-at : (t : ℕ) (a : lay-lts.At-loop (lay-calls t) (lay-at t) lay.Post lay-Inv-loop lay-μ-loop) (j : ℕ) → j ≤ a .loop .i → FirstAt (lay-nodes a) j (getD (lay-firsts a) j 0)
+begins-at t a j h = first-told (lay-nodes a) (lay-firsts a) (j + 1) j (known t a j h .2) (omega arith)
+
+-- the children of a node with two
+left-below : (t : ℕ) (c : lay-lts.After-left-of (lay-calls t) (lay-at t) lay.Post lay-Inv-loop lay-μ-loop)
+    → c .left-of .result < c .before .before .before .before .before .before .before .before .loop .i
+left-below t c =
     let k = c .before .before .before in
     let a = k .before .before .before .before .before in
-    ready-left (lay-nodes a) (lay-nulls a) (lay-firsts a) (a .loop .i) (a .loop .inv .0) (k .kind-of .result) (k .kind-of .ensures) (c .left-of .result)
-    (c .left-of .ensures) (c .before .before .if2 .left) (c .before .if3 .left)
+    left-lower (lay-nodes a) (a .loop .i) (k .kind-of .result) (c .left-of .result) (k .kind-of .ensures) (c .left-of .ensures)
+    (c .before .before .if2 .left) (c .before .if3 .left) (one-ordered (a .loop .i) (known t a (a .loop .i) (omega arith) .0))
 
-right-ready : (t : ℕ) (c : lay-lts.After-left-of (lay-calls t) (lay-at t) lay.Post lay-Inv-loop lay-μ-loop)
-    → let a = c .before .before .before .before .before .before .before .before in
-    Ready (lay-nodes a) (lay-nulls a) (lay-firsts a) (a .loop .i - 1) × (1 ≤ a .loop .i)
-right-ready t c =
-    let k = c .before .before .before in
-    let a = k .before .before .before .before .before in
-    ready-right (lay-nodes a) (lay-nulls a) (lay-firsts a) (a .loop .i) (a .loop .inv .0) (k .kind-of .result) (k .kind-of .ensures)
-    (c .before .before .if2 .left) (c .before .if3 .left)
+some : (t : ℕ) (c : lay-lts.After-left-of (lay-calls t) (lay-at t) lay.Post lay-Inv-loop lay-μ-loop)
+    → 1 ≤ c .before .before .before .before .before .before .before .before .loop .i
+some t c = omega (arith, left-below t c)
 
 lay-loop-holds : (t : ℕ) → lay-lts.Need-loop-holds (lay-calls t) (lay-at t) lay.Post lay-Inv-loop lay-μ-loop
-lay-loop-holds t c = (c .before .before .pre .1 .0, c .before .before .pre .1 .1, omega arith, omega arith, omega arith, refl, λ r after a. a)
+lay-loop-holds t c = (c .before .before .pre .1 .1 .1 .1, omega arith, omega arith, omega arith, refl, λ r after a. a)
 
 lay-mul-next-in : (t : ℕ) → lay-lts.Need-mul-next-in (lay-calls t) (lay-at t) lay.Post lay-Inv-loop lay-μ-loop
-lay-mul-next-in t c = omega (arith, c .loop .inv .0 .small)
+lay-mul-next-in t c = omega (arith, small t c)
 
 lay-element-copy-out-next-in : (t : ℕ) → lay-lts.Need-element-copy-out-next-in (lay-calls t) (lay-at t) lay.Post lay-Inv-loop lay-μ-loop
-lay-element-copy-out-next-in t c = c .loop .inv .0 .small
+lay-element-copy-out-next-in t c = small t c
 
 lay-next-in-requires : (t : ℕ) → lay-lts.Need-next-in-requires (lay-calls t) (lay-at t) lay.Post lay-Inv-loop lay-μ-loop
 lay-next-in-requires t c κs = search needs
 
 lay-element-copy-out-to-if : (t : ℕ) → lay-lts.Need-element-copy-out-to-if (lay-calls t) (lay-at t) lay.Post lay-Inv-loop lay-μ-loop
-lay-element-copy-out-to-if t c = c .before .before .before .loop .inv .0 .small
+lay-element-copy-out-to-if t c = small t (c .before .before .before)
 
 lay-to-if-requires : (t : ℕ) → lay-lts.Need-to-if-requires (lay-calls t) (lay-at t) lay.Post lay-Inv-loop lay-μ-loop
 lay-to-if-requires t c κs = search needs
 
 lay-same-length : (t : ℕ) → lay-lts.Need-same-length (lay-calls t) (lay-at t) lay.Post lay-Inv-loop lay-μ-loop
-lay-same-length t c = c .before .before .before .before .before .loop .inv .5
+lay-same-length t c = c .before .before .before .before .before .loop .inv .4
 
 lay-returns : (t : ℕ) → lay-lts.Need-returns (lay-calls t) (lay-at t) lay.Post lay-Inv-loop lay-μ-loop
 lay-returns t c =
     let n = c .before .before .before in
     let a = n .before .before in
-    let out = denied _ (n .next-in .result) (n .next-in .ensures) (not-true _ (c .before .before .if1 .taken)) in
+    let out = fails _ (n .next-in .result) (n .next-in .ensures) (c .before .before .if1 .taken) in
     let r = c .to-if .result in
     whole t a r (a .loop .space)
-    (onward-ends (lay-run a) (a .loop .i) (a .loop .at) (a .loop .to) _ r (a .loop .inv .1 .inside) (c .to-if .ensures))
-    (pass-by (lay-nodes a) (lay-nulls a) (lay-firsts a) (lay-run a) (a .loop .space) (a .loop .i) (a .loop .at) (a .loop .to) (a .loop .inv .0) r out (c .to-if .ensures))
+    (advances-halts (lay-run a) (a .loop .i) (a .loop .at) (a .loop .to) _ r (a .loop .inv .0 .inside) (c .to-if .ensures))
+    (pass-by (lay-nodes a) (getD (lay-firsts a) (a .loop .i) 0) (lay-run a) (a .loop .space) (a .loop .i) (a .loop .at) (a .loop .to) (begins-at t a (a .loop .i) (omega arith)) _ r
+    (null-told (lay-nodes a) (lay-nulls a) (a .loop .i + 1) (a .loop .i) (known t a (a .loop .i) (omega arith) .1) (omega arith)) out (c .to-if .ensures))
 
 lay-mul-entry : (t : ℕ) → lay-lts.Need-mul-entry (lay-calls t) (lay-at t) lay.Post lay-Inv-loop lay-μ-loop
-lay-mul-entry t c = omega (arith, c .before .before .before .loop .inv .0 .small)
+lay-mul-entry t c = omega (arith, small t (c .before .before .before))
 
 lay-element-copy-out-entry : (t : ℕ) → lay-lts.Need-element-copy-out-entry (lay-calls t) (lay-at t) lay.Post lay-Inv-loop lay-μ-loop
-lay-element-copy-out-entry t c = c .before .before .before .loop .inv .0 .small
+lay-element-copy-out-entry t c = small t (c .before .before .before)
 
 lay-kind-of-requires : (t : ℕ) → lay-lts.Need-kind-of-requires (lay-calls t) (lay-at t) lay.Post lay-Inv-loop lay-μ-loop
 lay-kind-of-requires t c κs = search needs
@@ -196,27 +213,20 @@ lay-put-requires t c κs = search needs
 
 lay-add-t31 : (t : ℕ) → lay-lts.Need-add-t31 (lay-calls t) (lay-at t) lay.Post lay-Inv-loop lay-μ-loop
 lay-add-t31 t c =
-    let p = c .before .before in
-    let then = p .before .before in
-    let e = then .before .before .before in
+    let e = found (c .before .before) in
     let a = e .before .before .before in
-    omega (arith, next-here t e .0, a .loop .inv .1 .short)
+    omega (arith, next-here t e .0, a .loop .inv .0 .short)
 
 lay-add-t32 : (t : ℕ) → lay-lts.Need-add-t32 (lay-calls t) (lay-at t) lay.Post lay-Inv-loop lay-μ-loop
 lay-add-t32 t c =
-    let p = c .before .before in
-    let then = p .before .before in
-    let e = then .before .before .before in
-    let a = e .before .before .before in
-    omega (arith, reach-over (lay-run a) (a .loop .i) (a .loop .at) (a .loop .to), a .loop .inv .1 .fits)
+    let a = found (c .before .before) .before .before .before in
+    omega (arith, reach-over (lay-run a) (a .loop .i) (a .loop .at) (a .loop .to), a .loop .inv .0 .fits)
 
 lay-same-length-2 : (t : ℕ) → lay-lts.Need-same-length-2 (lay-calls t) (lay-at t) lay.Post lay-Inv-loop lay-μ-loop
 lay-same-length-2 t c =
     let p = c .before .before in
-    let then = p .before .before in
-    let e = then .before .before .before in
-    let a = e .before .before .before in
-    p .put .kept .0 ∙ a .loop .inv .5
+    let a = found p .before .before .before in
+    p .put .kept .0 ∙ a .loop .inv .4
 
 lay-returns-2 : (t : ℕ) → lay-lts.Need-returns-2 (lay-calls t) (lay-at t) lay.Post lay-Inv-loop lay-μ-loop
 lay-returns-2 t c =
@@ -229,21 +239,24 @@ lay-returns-2 t c =
     whole t a r (p .put .last .0)
     (omega arith, omega (arith, next .0), reach-event (lay-run a) (a .loop .i) (a .loop .at) (a .loop .to) (next .0))
     (subst (LaysAt (lay-nodes a) (lay-run a) (a .loop .space) (a .loop .i) (a .loop .at) (a .loop .to) r) (sym (p .put .ensures))
-    (leaf-lays (lay-nodes a) (lay-nulls a) (lay-firsts a) (lay-run a) (a .loop .space) (a .loop .i) (a .loop .at) (a .loop .to) (a .loop .inv .0)
+    (leaf-lays (lay-nodes a) (getD (lay-firsts a) (a .loop .i) 0) (lay-run a) (a .loop .space) (a .loop .i) (a .loop .at) (a .loop .to) (begins-at t a (a .loop .i) (omega arith))
     (then .before .kind-of .result) (then .before .kind-of .ensures) next (then .if2 .taken)))
 
 lay-lay-blocks-requires : (t : ℕ) → lay-lts.Need-lay-blocks-requires (lay-calls t) (lay-at t) lay.Post lay-Inv-loop lay-μ-loop
 lay-lay-blocks-requires t c κs =
     let k = c .before .before .before in
     let a = k .before .before .before .before .before in
-    (omega (arith, a .before .before .before .pre .0, a .loop .inv .2), (a .loop .inv .0, (a .loop .inv .1, sym (k .kind-of .ensures) ∙ c .before .if3 .taken)))
+    let known-here = known t a (a .loop .i) (omega arith) in (
+      omega (arith, a .before .before .before .pre .0, a .loop .inv .1),
+      (known-here .0, (known-here .1, (known-here .2, (a .loop .inv .0, sym (k .kind-of .ensures) ∙ c .before .if3 .taken)))),
+    )
 
 lay-same-length-3 : (t : ℕ) → lay-lts.Need-same-length-3 (lay-calls t) (lay-at t) lay.Post lay-Inv-loop lay-μ-loop
 lay-same-length-3 t c =
     let p = c .before .before in
     let k = p .before .before .before .before in
     let a = k .before .before .before .before .before in
-    p .lay-blocks .kept .1 .1 .1 .1 .0 ∙ a .loop .inv .5
+    p .lay-blocks .kept .1 .1 .1 .1 .0 ∙ a .loop .inv .4
 
 lay-returns-3 : (t : ℕ) → lay-lts.Need-returns-3 (lay-calls t) (lay-at t) lay.Post lay-Inv-loop lay-μ-loop
 lay-returns-3 t c =
@@ -256,16 +269,16 @@ lay-left-of-requires : (t : ℕ) → lay-lts.Need-left-of-requires (lay-calls t)
 lay-left-of-requires t c κs = search needs
 
 lay-mul-next-in-2 : (t : ℕ) → lay-lts.Need-mul-next-in-2 (lay-calls t) (lay-at t) lay.Post lay-Inv-loop lay-μ-loop
-lay-mul-next-in-2 t c = omega (arith, left-ready t (c .before) .0 .small)
+lay-mul-next-in-2 t c = omega (arith, left-below t (c .before), small t (c .before .before .before .before .before .before .before .before .before))
 
 lay-element-copy-out-next-in-2 : (t : ℕ) → lay-lts.Need-element-copy-out-next-in-2 (lay-calls t) (lay-at t) lay.Post lay-Inv-loop lay-μ-loop
-lay-element-copy-out-next-in-2 t c = left-ready t (c .before) .0 .small
+lay-element-copy-out-next-in-2 t c = omega (arith, left-below t (c .before), small t (c .before .before .before .before .before .before .before .before .before))
 
 lay-next-in-requires-2 : (t : ℕ) → lay-lts.Need-next-in-requires-2 (lay-calls t) (lay-at t) lay.Post lay-Inv-loop lay-μ-loop
 lay-next-in-requires-2 t c κs = search needs
 
 lay-loop-less : (t : ℕ) → lay-lts.Need-loop-less (lay-calls t) (lay-at t) lay.Post lay-Inv-loop lay-μ-loop
-lay-loop-less t c = left-ready t (c .before .before .before .before) .1
+lay-loop-less t c = left-below t (c .before .before .before .before)
 
 lay-loop-again : (t : ℕ) → lay-lts.Need-loop-again (lay-calls t) (lay-at t) lay.Post lay-Inv-loop lay-μ-loop
 lay-loop-again t c =
@@ -274,23 +287,23 @@ lay-loop-again t c =
     let k = f .before .before .before in
     let e = k .before .before in
     let a = e .before .before .before in
-    let ready = left-ready t f in
-    let here = decided _ (n .next-in2 .result) (n .next-in2 .ensures) (c .if5 .taken) in (
-      ready .0,
-      room-narrow (lay-run a) (a .loop .i) (a .loop .at) (a .loop .to) (f .left-of .result) (omega (arith, ready .1)) (a .loop .inv .1),
-      omega (arith, ready .1, a .loop .inv .2),
+    let below = left-below t f in
+    let here = subst (Decides _) (c .if5 .taken) (n .next-in2 .ensures) in (
+      leeway-narrow (lay-run a) (a .loop .i) (a .loop .at) (a .loop .to) (f .left-of .result) (omega arith) (a .loop .inv .0),
+      omega (arith, a .loop .inv .1),
+      a .loop .inv .2,
       a .loop .inv .3,
       a .loop .inv .4,
-      a .loop .inv .5,
-      λ r after b. a .loop .inv .6 r after (choice-goes-left (lay-nodes a) (lay-nulls a) (lay-firsts a) (lay-run a) (a .loop .space) (a .loop .i) (a .loop .at) (a .loop .to)
-          (a .loop .inv .0) (k .kind-of .result) (k .kind-of .ensures) (next-here t e) after r (f .left-of .result) (f .left-of .ensures) (n .before .before .if4 .taken) here b),
+      λ r after b. a .loop .inv .5 r after (choice-goes-left (lay-nodes a) (getD (lay-firsts a) (a .loop .i) 0) (lay-run a) (a .loop .space) (a .loop .i) (a .loop .at) (a .loop .to)
+          (begins-at t a (a .loop .i) (omega arith)) (k .kind-of .result) (k .kind-of .ensures) (next-here t e) after r (f .left-of .result) (f .left-of .ensures) (n .before .before .if4 .taken)
+          _ (begins-at t a (f .left-of .result) (omega (arith, left-below t f))) here b),
     )
 
 lay-sub-i : (t : ℕ) → lay-lts.Need-sub-i (lay-calls t) (lay-at t) lay.Post lay-Inv-loop lay-μ-loop
-lay-sub-i t c = right-ready t (c .before .before .before .before) .1
+lay-sub-i t c = some t (c .before .before .before .before)
 
 lay-loop-less-2 : (t : ℕ) → lay-lts.Need-loop-less-2 (lay-calls t) (lay-at t) lay.Post lay-Inv-loop lay-μ-loop
-lay-loop-less-2 t c = omega (arith, right-ready t (c .before .before .before .before) .1)
+lay-loop-less-2 t c = omega (arith, left-below t (c .before .before .before .before))
 
 lay-loop-again-2 : (t : ℕ) → lay-lts.Need-loop-again-2 (lay-calls t) (lay-at t) lay.Post lay-Inv-loop lay-μ-loop
 lay-loop-again-2 t c =
@@ -299,25 +312,27 @@ lay-loop-again-2 t c =
     let k = f .before .before .before in
     let e = k .before .before in
     let a = e .before .before .before in
-    let ready = right-ready t f in
-    let out = denied _ (n .next-in2 .result) (n .next-in2 .ensures) (c .if5 .left) in (
-      ready .0,
-      room-narrow (lay-run a) (a .loop .i) (a .loop .at) (a .loop .to) (a .loop .i - 1) (omega arith) (a .loop .inv .1),
-      omega (arith, a .loop .inv .2),
+    let more = some t f in
+    let out = subst (Decides _) (c .if5 .left) (n .next-in2 .ensures) in (
+      leeway-narrow (lay-run a) (a .loop .i) (a .loop .at) (a .loop .to) (a .loop .i - 1) (omega arith) (a .loop .inv .0),
+      omega (arith, a .loop .inv .1),
+      a .loop .inv .2,
       a .loop .inv .3,
       a .loop .inv .4,
-      a .loop .inv .5,
-      λ r after b. a .loop .inv .6 r after (choice-goes-right (lay-nodes a) (lay-nulls a) (lay-firsts a) (lay-run a) (a .loop .space) (a .loop .i) (a .loop .at) (a .loop .to)
-          (a .loop .inv .0) (k .kind-of .result) (k .kind-of .ensures) (next-here t e) after r (f .left-of .result) (f .left-of .ensures) (n .before .before .if4 .taken) out b),
+      λ r after b. a .loop .inv .5 r after (choice-goes-right (lay-nodes a) (getD (lay-firsts a) (a .loop .i) 0) (lay-run a) (a .loop .space) (a .loop .i) (a .loop .at) (a .loop .to)
+          (begins-at t a (a .loop .i) (omega arith)) (k .kind-of .result) (k .kind-of .ensures) (next-here t e) after r (f .left-of .result) (f .left-of .ensures) (n .before .before .if4 .taken)
+          _ (begins-at t a (f .left-of .result) (omega (arith, left-below t f))) out b),
     )
 
 lay-lay-requires : (t : ℕ) → lay-lts.Need-lay-requires (lay-calls t) (lay-at t) lay.Post lay-Inv-loop lay-μ-loop
 lay-lay-requires t c κs =
     let f = c .before .before in
     let a = f .before .before .before .before .before .before .before .before in
-    let ready = left-ready t f in (
-      omega (arith, ready .1, a .before .before .before .pre .0, a .loop .inv .2),
-      (ready .0, room-narrow (lay-run a) (a .loop .i) (a .loop .at) (a .loop .to) (f .left-of .result) (omega (arith, ready .1)) (a .loop .inv .1)),
+    let left = f .left-of .result in
+    let below = left-below t f in
+    let known-left = known t a left (omega arith) in (
+      omega (arith, a .before .before .before .pre .0, a .loop .inv .1),
+      (known-left .0, (known-left .1, (known-left .2, leeway-narrow (lay-run a) (a .loop .i) (a .loop .at) (a .loop .to) left (omega arith) (a .loop .inv .0)))),
     )
 
 lay-enum-known-a : (t : ℕ) → lay-lts.Need-enum-known-a (lay-calls t) (lay-at t) lay.Post lay-Inv-loop lay-μ-loop
@@ -332,7 +347,7 @@ lay-same-length-4 t c =
     let f = d .before .before .before in
     let k = f .before .before .before in
     let a = k .before .before .before .before .before in
-    d .lay .kept .1 .1 .1 .1 .0 ∙ a .loop .inv .5
+    d .lay .kept .1 .1 .1 .1 .0 ∙ a .loop .inv .4
 
 lay-returns-4 : (t : ℕ) → lay-lts.Need-returns-4 (lay-calls t) (lay-at t) lay.Post lay-Inv-loop lay-μ-loop
 lay-returns-4 t c =
@@ -342,15 +357,15 @@ lay-returns-4 t c =
     let a = k .before .before .before .before .before in
     let last = d .lay .last .1 .1 .1 .1 .0 in
     let stuck = subst (λ (r : Laid). LaysAt (lay-nodes a) (lay-run a) (a .loop .space) (f .left-of .result) (a .loop .at) (a .loop .to) r last) (c .enum-told .given .1) (d .lay .ensures .1) in
-    whole t a Stuck last tt
-    (sequence-stuck (lay-nodes a) (lay-run a) (a .loop .space) last (a .loop .i) (a .loop .at) (a .loop .to) (k .kind-of .result) (f .left-of .result) (k .kind-of .ensures)
+    whole t a Unlaid last tt
+    (sequence-unlaid (lay-nodes a) (lay-run a) (a .loop .space) last (a .loop .i) (a .loop .at) (a .loop .to) (k .kind-of .result) (f .left-of .result) (k .kind-of .ensures)
     (f .left-of .ensures) (f .before .before .if2 .left) (d .before .before .if4 .left) (f .before .if3 .left) stuck)
 
 lay-sub-i-2 : (t : ℕ) → lay-lts.Need-sub-i-2 (lay-calls t) (lay-at t) lay.Post lay-Inv-loop lay-μ-loop
-lay-sub-i-2 t c = right-ready t (c .before .before .before .before .before .before .before .before) .1
+lay-sub-i-2 t c = some t (c .before .before .before .before .before .before .before .before)
 
 lay-loop-less-3 : (t : ℕ) → lay-lts.Need-loop-less-3 (lay-calls t) (lay-at t) lay.Post lay-Inv-loop lay-μ-loop
-lay-loop-less-3 t c = omega (arith, right-ready t (c .before .before .before .before .before .before .before .before) .1)
+lay-loop-less-3 t c = omega (arith, left-below t (c .before .before .before .before .before .before .before .before))
 
 lay-loop-again-3 : (t : ℕ) → lay-lts.Need-loop-again-3 (lay-calls t) (lay-at t) lay.Post lay-Inv-loop lay-μ-loop
 lay-loop-again-3 t c =
@@ -360,28 +375,26 @@ lay-loop-again-3 t c =
     let k = f .before .before .before in
     let a = k .before .before .before .before .before in
     let b = a .before .before .before .args in
-    let ready = right-ready t f in
-    let below = left-ready t f .1 in
+    let below = left-below t f in
     let last = d .lay .last .1 .1 .1 .1 .0 in
     let x = m .a .given .0 .0 in
     let y = m .a .given .0 .1 .0 in
     let goes = subst (λ (r : Laid). LaysAt (lay-nodes a) (lay-run a) (a .loop .space) (f .left-of .result) (a .loop .at) (a .loop .to) r last) (m .a .given .1) (d .lay .ensures .1) in
-    let on = subst (Onward (lay-run a) (f .left-of .result) (a .loop .at) (a .loop .to)) (m .a .given .1) (d .lay .ensures .0) in
+    let on = subst (Advances (lay-run a) (f .left-of .result) (a .loop .at) (a .loop .to)) (m .a .given .1) (d .lay .ensures .0) in
     let here = reach-wide (lay-run a) (a .loop .i) (a .loop .at) (a .loop .to) (f .left-of .result) x y (omega arith) (on .0) (on .2) in (
-      ready .0,
-      room-narrow (lay-run a) (a .loop .i) x y (a .loop .i - 1) (omega arith) (room-further (lay-run a) (a .loop .i) (a .loop .at) (a .loop .to) x y (on .1) here (a .loop .inv .1)),
-      omega (arith, a .loop .inv .2),
-      omega (arith, on .0, a .loop .inv .3),
-      omega (arith, reach-wide (lay-run a) (b .node) (a .loop .at) (a .loop .to) (a .loop .i) x y (a .loop .inv .2) (on .0) here, a .loop .inv .4),
-      d .lay .kept .1 .1 .1 .1 .0 ∙ a .loop .inv .5,
-      λ r after z. a .loop .inv .6 r after (sequence-goes (lay-nodes a) (lay-run a) (a .loop .space) last (a .loop .i) (a .loop .at) (a .loop .to) (k .kind-of .result)
+      leeway-narrow (lay-run a) (a .loop .i) x y (a .loop .i - 1) (omega arith) (leeway-further (lay-run a) (a .loop .i) (a .loop .at) (a .loop .to) x y (on .1) here (a .loop .inv .0)),
+      omega (arith, a .loop .inv .1),
+      omega (arith, on .0, a .loop .inv .2),
+      omega (arith, reach-wide (lay-run a) (b .node) (a .loop .at) (a .loop .to) (a .loop .i) x y (a .loop .inv .1) (on .0) here, a .loop .inv .3),
+      d .lay .kept .1 .1 .1 .1 .0 ∙ a .loop .inv .4,
+      λ r after z. a .loop .inv .5 r after (sequence-goes (lay-nodes a) (lay-run a) (a .loop .space) last (a .loop .i) (a .loop .at) (a .loop .to) (k .kind-of .result)
           (f .left-of .result) (k .kind-of .ensures) (f .left-of .ensures) (f .before .before .if2 .left) (d .before .before .if4 .left) (f .before .if3 .left) after r x y goes z),
     )
 
 abbrev lay-blocks-Inv-loop : lay-blocks-lts.InvT-loop
 lay-blocks-Inv-loop nodes nulls firsts run space₀ i event item at₀ to₀ k₀ space at to k =
-    Room run i at to × (event ≤ at) × (k ≤ at) × (reach run i at to ≤ reach run i event item) × (length space ≡ length space₀)
-    × StayAt (held nodes) run space₀ i event item k at to space
+    Leeway run i at to × (event ≤ at) × (k ≤ at) × (reach run i at to ≤ reach run i event item) × (length space ≡ length space₀)
+    × DwellsAt (held nodes) run space₀ i event item k at to space
 
 abbrev lay-blocks-μ-loop : lay-blocks-lts.MeasureT-loop
 lay-blocks-μ-loop nodes nulls firsts run space₀ i event item at₀ to₀ k₀ space at to k = length run - at
@@ -398,82 +411,98 @@ block-firsts a = a .before .before .before .args .firsts .now
 abbrev block-run : {t : ℕ} → lay-blocks-lts.At-loop (block-calls t) (lay-blocks-at t) lay-blocks.Post lay-blocks-Inv-loop lay-blocks-μ-loop → List ℕ
 block-run a = a .before .before .before .args .run .now
 
--- the body of the repeat
-body : (t : ℕ) (a : lay-blocks-lts.At-loop (block-calls t) (lay-blocks-at t) lay-blocks.Post lay-blocks-Inv-loop lay-blocks-μ-loop)
-    → let i = a .before .before .before .args .i in Ready (block-nodes a) (block-nulls a) (block-firsts a) (i - 1) × (1 ≤ i)
+-- where the body is laid, a block was opened
+abbrev opened : {t : ℕ} → lay-blocks-lts.After-lay (block-calls t) (lay-blocks-at t) lay-blocks.Post lay-blocks-Inv-loop lay-blocks-μ-loop → lay-blocks-lts.Else1 (block-calls t) (lay-blocks-at t) lay-blocks.Post lay-blocks-Inv-loop lay-blocks-μ-loop
+opened d = d .before .before .before .before .before .before
+
+abbrev looped : {t : ℕ} → lay-blocks-lts.Else1 (block-calls t) (lay-blocks-at t) lay-blocks.Post lay-blocks-Inv-loop lay-blocks-μ-loop → lay-blocks-lts.At-loop (block-calls t) (lay-blocks-at t) lay-blocks.Post lay-blocks-Inv-loop lay-blocks-μ-loop
+looped o = o .before .before .before .before
+
+abbrev after : {t : ℕ} → lay-blocks-lts.After-a (block-calls t) (lay-blocks-at t) lay-blocks.Post lay-blocks-Inv-loop lay-blocks-μ-loop → lay-blocks-lts.After-lay (block-calls t) (lay-blocks-at t) lay-blocks.Post lay-blocks-Inv-loop lay-blocks-μ-loop
+after x = x .before .before .before .before
+
+-- the repeat, and its body
+few : (t : ℕ) (a : lay-blocks-lts.At-loop (block-calls t) (lay-blocks-at t) lay-blocks.Post lay-blocks-Inv-loop lay-blocks-μ-loop) → a .before .before .before .args .i < 512
+few t a = one-small (a .before .before .before .args .i) (a .before .before .before .pre .1 .0)
+
+body : (t : ℕ) (a : lay-blocks-lts.At-loop (block-calls t) (lay-blocks-at t) lay-blocks.Post lay-blocks-Inv-loop lay-blocks-μ-loop) → 1 ≤ a .before .before .before .args .i
 body t a =
     let b = a .before .before .before in
-    ready-body (block-nodes a) (block-nulls a) (block-firsts a) (b .args .i) (b .pre .1 .0) (kindOf (block-nodes a (b .args .i))) refl (b .pre .1 .1 .1)
+    let is-repeat = b .pre .1 .1 .1 .1 .1 in
+    last-order (block-nodes a) (b .args .i) (kindOf (block-nodes a (b .args .i))) refl (omega arith) (one-ordered (b .args .i) (b .pre .1 .0)) .1
+
+begins-here : (t : ℕ) (a : lay-blocks-lts.At-loop (block-calls t) (lay-blocks-at t) lay-blocks.Post lay-blocks-Inv-loop lay-blocks-μ-loop) → let i = a .before .before .before .args .i in FirstAt (block-nodes a) i (getD (block-firsts a) i 0)
+begins-here t a = let b = a .before .before .before in first-told (block-nodes a) (block-firsts a) (b .args .i + 1) (b .args .i) (b .pre .1 .1 .1 .0) (omega arith)
 
 -- another block begins
 begins : (t : ℕ) (c : lay-blocks-lts.Else1 (block-calls t) (lay-blocks-at t) lay-blocks.Post lay-blocks-Inv-loop lay-blocks-μ-loop)
-    → let a = c .before .before .before .before in
+    → let a = looped c in
     let i = a .before .before .before .args .i in
     NextIn (getD (block-firsts a) i 0) (block-run a) (a .loop .at) × Within (a .loop .k + 1) (bound (upperOf (block-nodes a i)))
-begins t c = decided _ (c .before .another .result) (c .before .another .ensures) (not-false _ (c .if1 .left))
+begins t c = holds _ (c .before .another .result) (c .before .another .ensures) (c .if1 .left)
 
 -- its body has room after the opening
-room-inside : (t : ℕ) (c : lay-blocks-lts.Else1 (block-calls t) (lay-blocks-at t) lay-blocks.Post lay-blocks-Inv-loop lay-blocks-μ-loop)
-    → let a = c .before .before .before .before in Room (block-run a) (a .before .before .before .args .i - 1) (a .loop .at) (a .loop .to + 1)
-room-inside t c =
-    let a = c .before .before .before .before in
+leeway-inside : (t : ℕ) (c : lay-blocks-lts.Else1 (block-calls t) (lay-blocks-at t) lay-blocks.Post lay-blocks-Inv-loop lay-blocks-μ-loop)
+    → let a = looped c in Leeway (block-run a) (a .before .before .before .args .i - 1) (a .loop .at) (a .loop .to + 1)
+leeway-inside t c =
+    let a = looped c in
     let room = a .loop .inv .0 in
     record {
       short = room .short;
       inside = room .inside;
-      fits = omega (arith, room .fits, reach-open (block-run a) (a .before .before .before .args .i) (a .loop .at) (a .loop .to) (body t a .1) (begins t c .0 .0));
+      fits = omega (arith, room .fits, reach-open (block-run a) (a .before .before .before .args .i) (a .loop .at) (a .loop .to) (body t a) (begins t c .0 .0));
     }
 
 -- what the body lays after the opening
 laid : (t : ℕ) (c : lay-blocks-lts.After-lay (block-calls t) (lay-blocks-at t) lay-blocks.Post lay-blocks-Inv-loop lay-blocks-μ-loop)
-    → let a = c .before .before .before .before .before .before .before .before .before .before in
+    → let a = looped (opened c) in
     let i = a .before .before .before .args .i in
     LaysAt (block-nodes a) (block-run a) (putAt (a .loop .space) (a .loop .to) (i + 4096)) (i - 1) (a .loop .at) (a .loop .to + 1) (c .lay .result) (c .lay .last .1 .1 .1 .1 .0)
 laid t c =
     let p = c .before .before .before .before in
-    let a = p .before .before .before .before .before .before in
+    let a = looped (opened c) in
     let i = a .before .before .before .args .i in
     subst (λ (w : List ℕ). LaysAt (block-nodes a) (block-run a) w (i - 1) (a .loop .at) (a .loop .to + 1) (c .lay .result) (c .lay .last .1 .1 .1 .1 .0)) (p .put .ensures) (c .lay .ensures .1)
 
 -- and where it ends
 went : (t : ℕ) (c : lay-blocks-lts.After-a (block-calls t) (lay-blocks-at t) lay-blocks.Post lay-blocks-Inv-loop lay-blocks-μ-loop)
-    → let d = c .before .before .before .before in
-    let a = d .before .before .before .before .before .before .before .before .before .before in
+    → let d = after c in
+    let a = looped (opened d) in
     let i = a .before .before .before .args .i in
     LaysAt (block-nodes a) (block-run a) (putAt (a .loop .space) (a .loop .to) (i + 4096)) (i - 1) (a .loop .at) (a .loop .to + 1) (To (c .a .given .0 .0) (c .a .given .0 .1 .0))
     (d .lay .last .1 .1 .1 .1 .0)
-    × Onward (block-run a) (i - 1) (a .loop .at) (a .loop .to + 1) (To (c .a .given .0 .0) (c .a .given .0 .1 .0))
+    × Advances (block-run a) (i - 1) (a .loop .at) (a .loop .to + 1) (To (c .a .given .0 .0) (c .a .given .0 .1 .0))
 went t c =
-    let d = c .before .before .before .before in
-    let a = d .before .before .before .before .before .before .before .before .before .before in
+    let d = after c in
+    let a = looped (opened d) in
     let i = a .before .before .before .args .i in (
       subst (λ (r : Laid). LaysAt (block-nodes a) (block-run a) (putAt (a .loop .space) (a .loop .to) (i + 4096)) (i - 1) (a .loop .at) (a .loop .to + 1) r (d .lay .last .1 .1 .1 .1 .0))
           (c .a .given .1) (laid t d),
-      subst (Onward (block-run a) (i - 1) (a .loop .at) (a .loop .to + 1)) (c .a .given .1) (d .lay .ensures .0),
+      subst (Advances (block-run a) (i - 1) (a .loop .at) (a .loop .to + 1)) (c .a .given .1) (d .lay .ensures .0),
     )
 
 lay-blocks-loop-holds : (t : ℕ) → lay-blocks-lts.Need-loop-holds (block-calls t) (lay-blocks-at t) lay-blocks.Post lay-blocks-Inv-loop lay-blocks-μ-loop
 lay-blocks-loop-holds t c =
     let b = c .before .before in (
-      b .pre .1 .1 .0,
+      b .pre .1 .1 .1 .1 .0,
       omega arith,
       omega arith,
       omega arith,
       refl,
-      stay-starts (held (b .args .nodes .now)) (b .args .run .now) (b .args .space .now) (b .args .i) (b .args .event) (b .args .item),
+      dwell-starts (held (b .args .nodes .now)) (b .args .run .now) (b .args .space .now) (b .args .i) (b .args .event) (b .args .item),
     )
 
 lay-blocks-mul-another : (t : ℕ) → lay-blocks-lts.Need-mul-another (block-calls t) (lay-blocks-at t) lay-blocks.Post lay-blocks-Inv-loop lay-blocks-μ-loop
-lay-blocks-mul-another t c = omega (arith, c .before .before .before .pre .1 .0 .small)
+lay-blocks-mul-another t c = omega (arith, few t c)
 
 lay-blocks-element-copy-out-another : (t : ℕ) → lay-blocks-lts.Need-element-copy-out-another (block-calls t) (lay-blocks-at t) lay-blocks.Post lay-blocks-Inv-loop lay-blocks-μ-loop
-lay-blocks-element-copy-out-another t c = c .before .before .before .pre .1 .0 .small
+lay-blocks-element-copy-out-another t c = few t c
 
 lay-blocks-mul-another-2 : (t : ℕ) → lay-blocks-lts.Need-mul-another-2 (block-calls t) (lay-blocks-at t) lay-blocks.Post lay-blocks-Inv-loop lay-blocks-μ-loop
-lay-blocks-mul-another-2 t c = omega (arith, c .before .before .before .before .pre .1 .0 .small)
+lay-blocks-mul-another-2 t c = omega (arith, few t (c .before))
 
 lay-blocks-element-copy-out-another-2 : (t : ℕ) → lay-blocks-lts.Need-element-copy-out-another-2 (block-calls t) (lay-blocks-at t) lay-blocks.Post lay-blocks-Inv-loop lay-blocks-μ-loop
-lay-blocks-element-copy-out-another-2 t c = c .before .before .before .before .pre .1 .0 .small
+lay-blocks-element-copy-out-another-2 t c = few t (c .before)
 
 lay-blocks-add-another : (t : ℕ) → lay-blocks-lts.Need-add-another (block-calls t) (lay-blocks-at t) lay-blocks.Post lay-blocks-Inv-loop lay-blocks-μ-loop
 lay-blocks-add-another t c =
@@ -483,32 +512,28 @@ lay-blocks-add-another t c =
 lay-blocks-another-requires : (t : ℕ) → lay-blocks-lts.Need-another-requires (block-calls t) (lay-blocks-at t) lay-blocks.Post lay-blocks-Inv-loop lay-blocks-μ-loop
 lay-blocks-another-requires t c κs = search needs
 
-lay-blocks-mul-may-stop : (t : ℕ) → lay-blocks-lts.Need-mul-may-stop (block-calls t) (lay-blocks-at t) lay-blocks.Post lay-blocks-Inv-loop lay-blocks-μ-loop
-lay-blocks-mul-may-stop t c = omega (arith, c .before .before .before .before .before .before .before .pre .1 .0 .small)
+lay-blocks-mul-may-have : (t : ℕ) → lay-blocks-lts.Need-mul-may-have (block-calls t) (lay-blocks-at t) lay-blocks.Post lay-blocks-Inv-loop lay-blocks-μ-loop
+lay-blocks-mul-may-have t c = omega (arith, few t (c .before .before .before .before))
 
-lay-blocks-element-copy-out-may-stop : (t : ℕ) → lay-blocks-lts.Need-element-copy-out-may-stop (block-calls t) (lay-blocks-at t) lay-blocks.Post lay-blocks-Inv-loop lay-blocks-μ-loop
-lay-blocks-element-copy-out-may-stop t c = c .before .before .before .before .before .before .before .pre .1 .0 .small
+lay-blocks-element-copy-out-may-have : (t : ℕ) → lay-blocks-lts.Need-element-copy-out-may-have (block-calls t) (lay-blocks-at t) lay-blocks.Post lay-blocks-Inv-loop lay-blocks-μ-loop
+lay-blocks-element-copy-out-may-have t c = few t (c .before .before .before .before)
 
-lay-blocks-sub-may-stop : (t : ℕ) → lay-blocks-lts.Need-sub-may-stop (block-calls t) (lay-blocks-at t) lay-blocks.Post lay-blocks-Inv-loop lay-blocks-μ-loop
-lay-blocks-sub-may-stop t c = body t (c .before .before .before .before .before) .1
+lay-blocks-sub-may-have : (t : ℕ) → lay-blocks-lts.Need-sub-may-have (block-calls t) (lay-blocks-at t) lay-blocks.Post lay-blocks-Inv-loop lay-blocks-μ-loop
+lay-blocks-sub-may-have t c = body t (c .before .before .before .before .before)
 
-lay-blocks-element-copy-out-may-stop-2 : (t : ℕ) → lay-blocks-lts.Need-element-copy-out-may-stop-2 (block-calls t) (lay-blocks-at t) lay-blocks.Post lay-blocks-Inv-loop lay-blocks-μ-loop
-lay-blocks-element-copy-out-may-stop-2 t c = omega (arith, c .before .before .before .before .before .before .before .before .pre .1 .0 .small)
+lay-blocks-element-copy-out-may-have-2 : (t : ℕ) → lay-blocks-lts.Need-element-copy-out-may-have-2 (block-calls t) (lay-blocks-at t) lay-blocks.Post lay-blocks-Inv-loop lay-blocks-μ-loop
+lay-blocks-element-copy-out-may-have-2 t c = omega (arith, few t (c .before .before .before .before .before))
 
-lay-blocks-may-stop-requires : (t : ℕ) → lay-blocks-lts.Need-may-stop-requires (block-calls t) (lay-blocks-at t) lay-blocks.Post lay-blocks-Inv-loop lay-blocks-μ-loop
-lay-blocks-may-stop-requires t c κs = search needs
+lay-blocks-may-have-requires : (t : ℕ) → lay-blocks-lts.Need-may-have-requires (block-calls t) (lay-blocks-at t) lay-blocks.Post lay-blocks-Inv-loop lay-blocks-μ-loop
+lay-blocks-may-have-requires t c κs = search needs
 
 lay-blocks-to-if-requires : (t : ℕ) → lay-blocks-lts.Need-to-if-requires (block-calls t) (lay-blocks-at t) lay-blocks.Post lay-blocks-Inv-loop lay-blocks-μ-loop
 lay-blocks-to-if-requires t c κs = search needs
 
 lay-blocks-same-length : (t : ℕ) → lay-blocks-lts.Need-same-length (block-calls t) (lay-blocks-at t) lay-blocks.Post lay-blocks-Inv-loop lay-blocks-μ-loop
 lay-blocks-same-length t c =
-    let m = c .before in
-    let v = m .before .before .before in
-    let n = v .before in
-    let a = n .before .before .before in
-    let b = a .before .before .before in
-    a .loop .inv .4
+    let v = c .before .before .before .before in
+    v .before .before .before .before .loop .inv .4
 
 lay-blocks-returns : (t : ℕ) → lay-blocks-lts.Need-returns (block-calls t) (lay-blocks-at t) lay-blocks.Post lay-blocks-Inv-loop lay-blocks-μ-loop
 lay-blocks-returns t c =
@@ -519,37 +544,39 @@ lay-blocks-returns t c =
     let b = a .before .before .before in
     let i = b .args .i in
     let r = c .to-if .result in
-    let out = denied _ (n .another .result) (n .another .ensures) (not-true _ (v .if1 .taken)) in
-    let ends = ends-decided _ (m .may-stop .result) (a .loop .at) (a .loop .to) r (m .may-stop .ensures) (c .to-if .ensures) in (
-      onward-further (block-run a) i (b .args .event) (b .args .item) (a .loop .at) (a .loop .to) r (a .loop .inv .1) (a .loop .inv .3)
-          (onward-ends (block-run a) i (a .loop .at) (a .loop .to) _ r (a .loop .inv .0 .inside) ends),
-      stay-stops (block-nodes a) (block-nulls a) (block-firsts a) (block-run a) (b .args .space .now) (a .loop .space) i (b .args .event) (b .args .item) (a .loop .k) (a .loop .at)
-          (a .loop .to) (b .pre .1 .0) (a .loop .inv .5) (kindOf (block-nodes a i)) refl (b .pre .1 .1 .1) r out (body t a .1) ends,
+    let out = fails _ (n .another .result) (n .another .ensures) (v .if1 .taken) in
+    let ends = halts-decided _ (m .may-have .result) (a .loop .at) (a .loop .to) r (m .may-have .ensures) (c .to-if .ensures) in (
+      advances-further (block-run a) i (b .args .event) (b .args .item) (a .loop .at) (a .loop .to) r (a .loop .inv .1) (a .loop .inv .3)
+          (advances-halts (block-run a) i (a .loop .at) (a .loop .to) _ r (a .loop .inv .0 .inside) ends),
+      dwell-stops (block-nodes a) (getD (block-firsts a) (b .args .i) 0) (block-run a) (b .args .space .now) (a .loop .space) i (b .args .event) (b .args .item) (a .loop .k) (a .loop .at)
+          (a .loop .to) (begins-here t a) (a .loop .inv .5) (kindOf (block-nodes a i)) refl (b .pre .1 .1 .1 .1 .1) _ r
+          (null-told (block-nodes a) (block-nulls a) (i + 1) (i - 1) (b .pre .1 .1 .0) (omega arith)) out ends,
     )
 
 lay-blocks-add-put : (t : ℕ) → lay-blocks-lts.Need-add-put (block-calls t) (lay-blocks-at t) lay-blocks.Post lay-blocks-Inv-loop lay-blocks-μ-loop
-lay-blocks-add-put t c = omega (arith, c .before .before .before .before .before .before .before .before .pre .1 .0 .small)
+lay-blocks-add-put t c = omega (arith, few t (c .before .before .before .before .before))
 
 lay-blocks-put-requires : (t : ℕ) → lay-blocks-lts.Need-put-requires (block-calls t) (lay-blocks-at t) lay-blocks.Post lay-blocks-Inv-loop lay-blocks-μ-loop
 lay-blocks-put-requires t c κs = search needs
 
 lay-blocks-sub-lay : (t : ℕ) → lay-blocks-lts.Need-sub-lay (block-calls t) (lay-blocks-at t) lay-blocks.Post lay-blocks-Inv-loop lay-blocks-μ-loop
 lay-blocks-sub-lay t c =
-    let o = c .before .before .before .before .before in
-    let a = o .before .before .before .before in
-    body t a .1
+    body t (looped (c .before .before .before .before .before))
 
 lay-blocks-add-lay : (t : ℕ) → lay-blocks-lts.Need-add-lay (block-calls t) (lay-blocks-at t) lay-blocks.Post lay-blocks-Inv-loop lay-blocks-μ-loop
 lay-blocks-add-lay t c =
-    let o = c .before .before .before .before .before in
-    let a = o .before .before .before .before in
+    let a = looped (c .before .before .before .before .before) in
     omega (arith, reach-over (block-run a) (a .before .before .before .args .i) (a .loop .at) (a .loop .to), a .loop .inv .0 .fits)
 
 lay-blocks-lay-requires : (t : ℕ) → lay-blocks-lts.Need-lay-requires (block-calls t) (lay-blocks-at t) lay-blocks.Post lay-blocks-Inv-loop lay-blocks-μ-loop
 lay-blocks-lay-requires t c κs =
     let o = c .before .before .before .before .before in
-    let a = o .before .before .before .before in
-    (omega (arith, body t a .1, a .before .before .before .pre .0), (body t a .0, room-inside t o))
+    let a = looped o in
+    let b = a .before .before .before in
+    let i = b .args .i in
+    let more = body t a in
+    let k = known-lower (b .args .nodes .now) (block-nulls a) (block-firsts a) i (i - 1) (omega arith) (b .pre .1 .0) (b .pre .1 .1 .0) (b .pre .1 .1 .1 .0) in
+    (omega (arith, b .pre .0), (k .0, (k .1, (k .2, leeway-inside t o))))
 
 lay-blocks-enum-known-a : (t : ℕ) → lay-blocks-lts.Need-enum-known-a (block-calls t) (lay-blocks-at t) lay-blocks.Post lay-blocks-Inv-loop lay-blocks-μ-loop
 lay-blocks-enum-known-a t c = search needs
@@ -561,59 +588,45 @@ lay-blocks-same-length-2 : (t : ℕ) → lay-blocks-lts.Need-same-length-2 (bloc
 lay-blocks-same-length-2 t c =
     let d = c .before .before .before .before in
     let p = d .before .before .before .before in
-    let o = p .before .before in
-    let a = o .before .before .before .before in
-    let b = a .before .before .before in
-    d .lay .kept .1 .1 .1 .1 .0 ∙ p .put .kept .0 ∙ a .loop .inv .4
+    d .lay .kept .1 .1 .1 .1 .0 ∙ p .put .kept .0 ∙ looped (opened d) .loop .inv .4
 
 lay-blocks-returns-2 : (t : ℕ) → lay-blocks-lts.Need-returns-2 (block-calls t) (lay-blocks-at t) lay-blocks.Post lay-blocks-Inv-loop lay-blocks-μ-loop
 lay-blocks-returns-2 t c =
     let d = c .before .before .before .before in
-    let p = d .before .before .before .before in
-    let o = p .before .before in
-    let a = o .before .before .before .before in
+    let o = opened d in
+    let a = looped o in
     let b = a .before .before .before in
     let i = b .args .i in
     let last = d .lay .last .1 .1 .1 .1 .0 in
     let stuck = subst (λ (r : Laid). LaysAt (block-nodes a) (block-run a) (putAt (a .loop .space) (a .loop .to) (i + 4096)) (i - 1) (a .loop .at) (a .loop .to + 1) r last)
     (c .enum-told .given .1) (laid t d) in (
       tt,
-      stuck-body (block-nodes a) (block-nulls a) (block-firsts a) (block-run a) (b .args .space .now) (a .loop .space) (b .args .i) (b .args .event) (b .args .item) (a .loop .k)
-          (a .loop .at) (a .loop .to) (b .pre .1 .0) (a .loop .inv .5) (kindOf (block-nodes a i)) refl (b .pre .1 .1 .1) (begins t o .0) (begins t o .1) last stuck,
+      unlaid-body (block-nodes a) (getD (block-firsts a) (b .args .i) 0) (block-run a) (b .args .space .now) (a .loop .space) (b .args .i) (b .args .event) (b .args .item) (a .loop .k)
+          (a .loop .at) (a .loop .to) (begins-here t a) (a .loop .inv .5) (kindOf (block-nodes a i)) refl (b .pre .1 .1 .1 .1 .1) (begins t o .0) (begins t o .1) last stuck,
     )
 
 lay-blocks-same-length-3 : (t : ℕ) → lay-blocks-lts.Need-same-length-3 (block-calls t) (lay-blocks-at t) lay-blocks.Post lay-blocks-Inv-loop lay-blocks-μ-loop
 lay-blocks-same-length-3 t c =
     let d = c .before .before .before .before .before .before in
     let p = d .before .before .before .before in
-    let o = p .before .before in
-    let a = o .before .before .before .before in
-    let b = a .before .before .before in
-    d .lay .kept .1 .1 .1 .1 .0 ∙ p .put .kept .0 ∙ a .loop .inv .4
+    d .lay .kept .1 .1 .1 .1 .0 ∙ p .put .kept .0 ∙ looped (opened d) .loop .inv .4
 
 lay-blocks-returns-3 : (t : ℕ) → lay-blocks-lts.Need-returns-3 (block-calls t) (lay-blocks-at t) lay-blocks.Post lay-blocks-Inv-loop lay-blocks-μ-loop
 lay-blocks-returns-3 t c =
-    let d = c .before .before .before .before .before .before in
-    let p = d .before .before .before .before in
-    let o = p .before .before in
-    let a = o .before .before .before .before in
-    let b = a .before .before .before in
-    let x = c .before .before in (
+    let x = c .before .before in
+    let d = after x in
+    let o = opened d in
+    let a = looped o in
+    let b = a .before .before .before in (
       tt,
-      stuck-event (block-nodes a) (block-nulls a) (block-firsts a) (block-run a) (b .args .space .now) (a .loop .space) (b .args .i) (b .args .event) (b .args .item) (a .loop .k)
-          (a .loop .at) (a .loop .to) (b .pre .1 .0) (a .loop .inv .5) (kindOf (block-nodes a (b .args .i))) refl (b .pre .1 .1 .1) (begins t o .0) (begins t o .1) (d .lay .last .1 .1 .1 .1 .0)
+      unlaid-event (block-nodes a) (getD (block-firsts a) (b .args .i) 0) (block-run a) (b .args .space .now) (a .loop .space) (b .args .i) (b .args .event) (b .args .item) (a .loop .k)
+          (a .loop .at) (a .loop .to) (begins-here t a) (a .loop .inv .5) (kindOf (block-nodes a (b .args .i))) refl (b .pre .1 .1 .1 .1 .1) (begins t o .0) (begins t o .1) (d .lay .last .1 .1 .1 .1 .0)
           (x .a .given .0 .0) (x .a .given .0 .1 .0) (c .if2 .taken) (a .loop .inv .0 .inside) (went t x .0),
     )
 
 lay-blocks-add-put-2 : (t : ℕ) → lay-blocks-lts.Need-add-put-2 (block-calls t) (lay-blocks-at t) lay-blocks.Post lay-blocks-Inv-loop lay-blocks-μ-loop
 lay-blocks-add-put-2 t c =
-    let x = c .before .before .before in
-    let d = x .before .before .before .before in
-    let p = d .before .before .before .before in
-    let o = p .before .before in
-    let a = o .before .before .before .before in
-    let b = a .before .before .before in
-    omega (arith, b .pre .1 .0 .small)
+    omega (arith, few t (looped (opened (after (c .before .before .before)))))
 
 lay-blocks-put-requires-2 : (t : ℕ) → lay-blocks-lts.Need-put-requires-2 (block-calls t) (lay-blocks-at t) lay-blocks.Post lay-blocks-Inv-loop lay-blocks-μ-loop
 lay-blocks-put-requires-2 t c κs = search needs
@@ -621,40 +634,28 @@ lay-blocks-put-requires-2 t c κs = search needs
 lay-blocks-add-to : (t : ℕ) → lay-blocks-lts.Need-add-to (block-calls t) (lay-blocks-at t) lay-blocks.Post lay-blocks-Inv-loop lay-blocks-μ-loop
 lay-blocks-add-to t c =
     let x = c .before .before .before .before .before .before in
-    let d = x .before .before .before .before in
-    let p = d .before .before .before .before in
-    let o = p .before .before in
-    let a = o .before .before .before .before in
-    let b = a .before .before .before in
-    omega (arith, reach-over (block-run a) (b .args .i - 1) (x .a .given .0 .0) (x .a .given .0 .1 .0), went t x .1 .2, room-inside t o .fits)
+    let o = opened (after x) in
+    let a = looped o in
+    omega (arith, reach-over (block-run a) (a .before .before .before .args .i - 1) (x .a .given .0 .0) (x .a .given .0 .1 .0), went t x .1 .2, leeway-inside t o .fits)
 
 lay-blocks-add-k : (t : ℕ) → lay-blocks-lts.Need-add-k (block-calls t) (lay-blocks-at t) lay-blocks.Post lay-blocks-Inv-loop lay-blocks-μ-loop
 lay-blocks-add-k t c =
     let x = c .before .before .before .before .before .before in
-    let d = x .before .before .before .before in
-    let p = d .before .before .before .before in
-    let o = p .before .before in
-    let a = o .before .before .before .before in
-    let b = a .before .before .before in
+    let a = looped (opened (after x)) in
     omega (arith, a .loop .inv .2, a .loop .inv .0 .inside, a .loop .inv .0 .short)
 
 lay-blocks-loop-less : (t : ℕ) → lay-blocks-lts.Need-loop-less (block-calls t) (lay-blocks-at t) lay-blocks.Post lay-blocks-Inv-loop lay-blocks-μ-loop
 lay-blocks-loop-less t c =
     let x = c .before .before .before .before .before .before in
-    let d = x .before .before .before .before in
-    let p = d .before .before .before .before in
-    let o = p .before .before in
-    let a = o .before .before .before .before in
-    let b = a .before .before .before in
-    omega (arith, begins t o .0 .0, went t x .1 .0, c .before .before .before .before .if2 .left)
+    omega (arith, begins t (opened (after x)) .0 .0, went t x .1 .0, c .before .before .before .before .if2 .left)
 
 lay-blocks-loop-again : (t : ℕ) → lay-blocks-lts.Need-loop-again (block-calls t) (lay-blocks-at t) lay-blocks.Post lay-blocks-Inv-loop lay-blocks-μ-loop
 lay-blocks-loop-again t c =
     let x = c .before .before .before .before .before .before in
-    let d = x .before .before .before .before in
+    let d = after x in
     let p = d .before .before .before .before in
-    let o = p .before .before in
-    let a = o .before .before .before .before in
+    let o = opened d in
+    let a = looped o in
     let b = a .before .before .before in
     let q = c .before .before in
     let i = b .args .i in
@@ -663,15 +664,15 @@ lay-blocks-loop-again t c =
     let last = d .lay .last .1 .1 .1 .1 .0 in
     let on = went t x .1 in
     let more : a .loop .at < u = omega (arith, on .0, q .before .before .if2 .left) in
-    let closed = reach-close (block-run a) i (a .loop .at) (a .loop .to) u v (body t a .1) more (on .1) (on .2) in (
-      room-further (block-run a) i (a .loop .at) (a .loop .to) u (v + 1) (on .1) closed (a .loop .inv .0),
+    let closed = reach-close (block-run a) i (a .loop .at) (a .loop .to) u v (body t a) more (on .1) (on .2) in (
+      leeway-further (block-run a) i (a .loop .at) (a .loop .to) u (v + 1) (on .1) closed (a .loop .inv .0),
       omega (arith, a .loop .inv .1),
       omega (arith, a .loop .inv .2),
       omega (arith, a .loop .inv .3),
       q .put2 .kept .0 ∙ d .lay .kept .1 .1 .1 .1 .0 ∙ p .put .kept .0 ∙ a .loop .inv .4,
-      subst (StayAt (block-nodes a) (block-run a) (b .args .space .now) i (b .args .event) (b .args .item) (a .loop .k + 1) u (v + 1)) (sym (q .put2 .ensures))
-          (stay-goes (block-nodes a) (block-nulls a) (block-firsts a) (block-run a) (b .args .space .now) (a .loop .space) (b .args .i) (b .args .event) (b .args .item) (a .loop .k)
-          (a .loop .at) (a .loop .to) (b .pre .1 .0) (a .loop .inv .5) (begins t o .0) (begins t o .1) u v last more (on .1) (went t x .0)),
+      subst (DwellsAt (block-nodes a) (block-run a) (b .args .space .now) i (b .args .event) (b .args .item) (a .loop .k + 1) u (v + 1)) (sym (q .put2 .ensures))
+          (dwell-goes (block-nodes a) (getD (block-firsts a) (b .args .i) 0) (block-run a) (b .args .space .now) (a .loop .space) (b .args .i) (b .args .event) (b .args .item) (a .loop .k)
+          (a .loop .at) (a .loop .to) (begins-here t a) (a .loop .inv .5) (begins t o .0) (begins t o .1) u v last more (on .1) (went t x .0)),
     )
 
 pub +lay+lay-blocks-spec : {M : Type 1} → statement M
@@ -728,11 +729,11 @@ pub +lay+lay-blocks-spec : {M : Type 1} → statement M
     (lay-blocks-element-copy-out-another-2 t)
     (lay-blocks-add-another t)
     (lay-blocks-another-requires t)
-    (lay-blocks-mul-may-stop t)
-    (lay-blocks-element-copy-out-may-stop t)
-    (lay-blocks-sub-may-stop t)
-    (lay-blocks-element-copy-out-may-stop-2 t)
-    (lay-blocks-may-stop-requires t)
+    (lay-blocks-mul-may-have t)
+    (lay-blocks-element-copy-out-may-have t)
+    (lay-blocks-sub-may-have t)
+    (lay-blocks-element-copy-out-may-have-2 t)
+    (lay-blocks-may-have-requires t)
     (lay-blocks-to-if-requires t)
     (lay-blocks-same-length t)
     (lay-blocks-returns t)
