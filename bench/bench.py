@@ -28,6 +28,9 @@ CROSS_PACKAGES = "gcc-x86-64-linux-gnu,libc6-dev-amd64-cross"
 JUDGE_TARGETS = {**dict.fromkeys(["P6", "P7", "P8", "P10"], "1/5"), **dict.fromkeys(["P1", "P4"], "1/3")}
 ONE_EVENT_TARGETS = {**dict.fromkeys(["P6", "P7", "P8", "P10"], "1/3"), **dict.fromkeys(["P1", "P4"], "1/2")}
 EVENT_TARGETS = dict.fromkeys(["P3", "P6", "P7", "P9"], "1")
+# So many instructions at most, whatever libxml2 takes.
+ONE_EVENT_LIMITS = {"P10": 75_000}
+MIDRUN_LIMITS = {"P10": 77_000}
 # Twice the nodes may cost so many times as much.
 DOUBLING_TARGET = "2.2"
 
@@ -112,6 +115,8 @@ class Ours:
         if call == "follow":
             run = file_of(name, "run").read_bytes()[:given]
             return b"0 %d %d\n" % (len(run), 0 if self.laid[name].is_word(run) else 1)
+        if call == "midrun":
+            return b"0 1 %d\n" % (0 if self.laid[name].is_word(file_of(name, "run").read_bytes()[:given]) else 1)
         if call == "write":
             record = file_of(name, "record").read_bytes() if given else b""
             return b"0 %d\n" % len(record) + record
@@ -185,8 +190,8 @@ class Table:
         self.met = self.missed = self.wrong = 0
         say(line(HEADINGS))
 
-    def row(self, what, name, ours, against, target=None, theirs=None):
-        """A row; ours is measured here, and held to what it is compared with."""
+    def row(self, what, name, ours, against, target=None, theirs=None, limit=None):
+        """A row; ours is measured here, and held to what it is compared with, and to a limit of its own."""
         ratio, verdict = "", ""
         try:
             mine = ours()
@@ -197,6 +202,8 @@ class Table:
             ratio = f"{mine / against:.3f}"
         if mine is not None and against and target:
             verdict = self.judged(mine <= value_of(target) * against)
+        if mine is not None and limit:
+            verdict += f"{', ' * bool(verdict)}{self.judged(mine <= limit)} {limit:,}"
         say(line((what, name, figure(mine), figure(theirs), ratio, target or "", verdict)))
         return mine
 
@@ -214,8 +221,8 @@ class Bench:
     def __init__(self, ours, theirs):
         self.ours, self.theirs, self.table = ours, theirs, Table()
 
-    def compare(self, what, name, ours, theirs, target):
-        self.table.row(what, name, ours, theirs, target, theirs)
+    def compare(self, what, name, ours, theirs, target, limit=None):
+        self.table.row(what, name, ours, theirs, target, theirs, limit)
 
     def judge(self):
         for name in procedures.NAMED:
@@ -225,7 +232,14 @@ class Bench:
     def follow_one(self):
         for name in procedures.NAMED:
             self.compare("Follow one event", name, lambda: self.ours.cost("follow", name, 1),
-                         self.theirs.compile(name) + self.theirs.push(name), ONE_EVENT_TARGETS.get(name))
+                         self.theirs.compile(name) + self.theirs.push(name), ONE_EVENT_TARGETS.get(name),
+                         ONE_EVENT_LIMITS.get(name))
+
+    def follow_midrun(self):
+        """One event from the state that half of the run leads to."""
+        for name, (_, run) in procedures.NAMED.items():
+            self.compare("Follow one event mid-run", name, lambda: self.ours.cost("midrun", name, len(run) // 2 + 1),
+                         self.theirs.compile(name) + self.theirs.push(name), None, MIDRUN_LIMITS.get(name))
 
     def each_event(self, what, cost):
         for name, (_, run) in procedures.NAMED.items():
@@ -268,6 +282,7 @@ class Bench:
     def run(self):
         self.judge()
         self.follow_one()
+        self.follow_midrun()
         self.in_bulk()
         self.growth()
         self.stack()

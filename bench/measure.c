@@ -4,8 +4,9 @@
  *     measure CALL FILE INPUT BYTES REPEATS    makes the call so often and prints what it gave the last time
  *     measure stack CALL FILE INPUT BYTES      makes it once and prints how many bytes of stack it touched
  *
- * CALL is judge, follow, write, check or prompt. INPUT is the run, for check the record; its first BYTES bytes
- * are lent, or all of it ("all"). Two runs that differ in REPEATS alone differ by what the calls cost, the
+ * CALL is judge, follow, midrun, write, check or prompt. INPUT is the run, for check the record; its first BYTES
+ * bytes are lent, or all of it ("all"). midrun is follow with the last of these events alone, from the state
+ * that the others lead to. Two runs that differ in REPEATS alone differ by what the calls cost, the
  * handing over of the arguments included. A result is the answer, then the numbers in the header's order; for
  * write the record follows on the next line.
  */
@@ -33,6 +34,12 @@ static _Alignas(64) uint8_t painted[STACK_BYTES];
 static uint32_t answer, node, kind, code, verdict, yes;
 static uint64_t taken, length, set;
 
+static void fail(const char *why)
+{
+    fprintf(stderr, "measure: %s\n", why);
+    exit(2);
+}
+
 static void judge(uint8_t *state)
 {
     (void)state;
@@ -42,6 +49,19 @@ static void judge(uint8_t *state)
 static void follow(uint8_t *state)
 {
     answer = seq_follow(file.bytes, file.length, state, SEQ_STATE_BYTES, lent.bytes, lent.length, &taken, &verdict);
+}
+
+/* Takes all events but the last, so that each call has that one left. */
+static void begin_midrun(void)
+{
+    if (lent.length < 1)
+        fail("there is no event to go on with");
+    lent.length--;
+    follow(states[0]);
+    for (int i = 1; i < MOST_REPEATS; i++)
+        memcpy(states[i], states[0], SEQ_STATE_BYTES);
+    lent.bytes += lent.length;
+    lent.length = 1;
 }
 
 static void write_record(uint8_t *state)
@@ -89,22 +109,18 @@ static void print_prompt(void)
 
 static const struct call {
     const char *name;
+    void (*begin)(void); /* once, before the calls; NULL where nothing is to be done */
     void (*make)(uint8_t *state);
     void (*print)(void);
 } calls[] = {
-    {"judge", judge, print_judge},
-    {"follow", follow, print_follow},
-    {"write", write_record, print_write},
-    {"check", check, print_check},
-    {"prompt", prompt, print_prompt},
+    {"judge", NULL, judge, print_judge},
+    {"follow", NULL, follow, print_follow},
+    {"midrun", begin_midrun, follow, print_follow},
+    {"write", NULL, write_record, print_write},
+    {"check", NULL, check, print_check},
+    {"prompt", NULL, prompt, print_prompt},
 };
 enum { CALLS = sizeof calls / sizeof calls[0] };
-
-static void fail(const char *why)
-{
-    fprintf(stderr, "measure: %s\n", why);
-    exit(2);
-}
 
 static const struct call *call_named(const char *name)
 {
@@ -131,6 +147,8 @@ static int repeat(const struct call *call, int repeats)
 {
     if (repeats < 1 || repeats > MOST_REPEATS)
         fail("so many repeats are not provided for");
+    if (call->begin != NULL)
+        call->begin();
     for (int i = 0; i < repeats; i++)
         call->make(states[i]);
     call->print();
