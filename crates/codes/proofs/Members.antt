@@ -6,7 +6,7 @@ use native.Mathlib.Decide.{decLe}
 use native.Mathlib.Nat.{le-antisymm, lt-of-lt-of-le, zero-div}
 use native.Mathlib.Omega.{arith}
 use lib.Pow.{pow-lt, pow-mono}
-use Rattle.codes.specs.Codes.{Bounded, Codes, Has, Least, Shared, both, either, limit, nothing, only}
+use Rattle.codes.specs.Codes.{WithinLimit, Codes, Has, Least, Shared, both, either, limit, nothing, only}
 use Rattle.meaning.proofs.general.Digits.{digit-of-and, digit-of-or, digit-of-power, digit-past, digit-under-power}
 use Rattle.meaning.proofs.general.CodeSets.{has-or-not}
 
@@ -46,7 +46,7 @@ both-has a b c = let e = digit-of-and a b c in (λ h. (omega arith, omega arith)
 
 -- ---- what is in a set is a code
 
-pub has-below : (s : Codes) (c : ℕ) → Bounded s → Has s c → c < limit
+pub has-below : (s : Codes) (c : ℕ) → WithinLimit s → Has s c → c < limit
 unfolding Has
 has-below s c w h = below (decLe limit c)
   where

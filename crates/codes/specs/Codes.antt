@@ -18,8 +18,8 @@ abbrev pub Shared : Codes → Codes → ℕ → Type 0
 Shared a b c = Has a c × Has b c
 
 -- No number from the limit on is in the set s, as in every `u64`.
-abbrev pub Bounded : Codes → Type 0
-Bounded s = s < 2 ^ limit
+abbrev pub WithinLimit : Codes → Type 0
+WithinLimit s = s < 2 ^ limit
 
 -- Code c is the lowest of which P holds.
 pub record Least (P : ℕ → Type 0) (c : ℕ) : Type 0 where

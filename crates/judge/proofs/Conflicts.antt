@@ -6,7 +6,7 @@ use native.Mathlib.Omega.{arith}
 use Rattle.meaning.specs.Conflict.{Conflict, ConflictAt}
 use Rattle.meaning.specs.Expr.{Expr, size, root, Part, Whole}
 use Rattle.meaning.proofs.expressions.Parts.{part-within}
-use Rattle.judge.specs.Lowest.{Conflicts, Names, orElse}
+use Rattle.judge.specs.Lowest.{Conflicts, Names, foundFirst}
 use Rattle.judge.specs.declared.conflict.Found.{Found}
 use Rattle.judge.proofs.Lowest.{Either, Same, Ahead, names-same, names-either}
 
@@ -56,12 +56,12 @@ of-two s l r e i k c = (
 )
 
 pub names-two : (s : ℕ) (l r e : Expr) (x y own : Found) → root s e ≡ s + size l + size r
-    → Names (ConflictAt s l) x → Names (ConflictAt (s + size l) r) y → Names (OwnAt (root s e) e) own → Names (OfTwo s l r e) (orElse x (orElse y own))
+    → Names (ConflictAt s l) x → Names (ConflictAt (s + size l) r) y → Names (OwnAt (root s e) e) own → Names (OfTwo s l r e) (foundFirst x (foundFirst y own))
 names-two s l r e x y own h nx ny own-names =
     let t = s + size l in
     let n = root s e in
-    names-same (of-two s l r e) (orElse x (orElse y own))
-    (names-either (ahead t (at-under s l) (from-either t (at-from t r) (own-from t n e (omega arith)))) x (orElse y own) nx
+    names-same (of-two s l r e) (foundFirst x (foundFirst y own))
+    (names-either (ahead t (at-under s l) (from-either t (at-from t r) (own-from t n e (omega arith)))) x (foundFirst y own) nx
     (names-either (ahead n (λ i k c f. let g = at-under t r i k c f in omega arith) (own-from n n e (omega arith))) y own ny own-names))
 
 abbrev OfOne : ℕ → Expr → Expr → Conflicts
@@ -74,8 +74,8 @@ of-one s b e i k c = (
 )
 
 pub names-one : (s : ℕ) (b e : Expr) (x own : Found) → root s e ≡ s + size b
-    → Names (ConflictAt s b) x → Names (OwnAt (root s e) e) own → Names (OfOne s b e) (orElse x own)
+    → Names (ConflictAt s b) x → Names (OwnAt (root s e) e) own → Names (OfOne s b e) (foundFirst x own)
 names-one s b e x own h nx own-names =
     let n = root s e in
-    names-same (of-one s b e) (orElse x own)
+    names-same (of-one s b e) (foundFirst x own)
     (names-either (ahead n (λ i k c f. let g = at-under s b i k c f in omega arith) (own-from n n e (omega arith))) x own nx own-names)

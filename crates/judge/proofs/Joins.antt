@@ -13,7 +13,7 @@ use Rattle.meaning.specs.Sets.{First, After, Starts, Flexible}
 use Rattle.procedure.specs.Tests.{Decides}
 use Rattle.procedure.proofs.Deciding.{decides-so}
 use Rattle.procedure.proofs.Empties.{zero-test}
-use Rattle.judge.specs.Lowest.{Names, SharedAt, orElse}
+use Rattle.judge.specs.Lowest.{Names, SharedAt, foundFirst}
 use Rattle.judge.specs.Sets.{SetsOf, Joins, OverBody}
 use Rattle.judge.specs.declared.conflict.Found.{Found}
 use Rattle.judge.specs.declared.sets.PartSets.{PartSets}
@@ -43,7 +43,7 @@ pub joins-choice : (i : ℕ) (l r : PartSets) (first after : ℕ) (own found : F
     → Exactly first (λ c. Has (l .first) c ⊎ Has (r .first) c)
     → Exactly after (λ c. Has (l .after) c ⊎ Has (r .after) c)
     → Names (SharedAt i 1 (l .first) (r .first)) own
-    → found ≡ orElse (l .conflict) (orElse (r .conflict) own)
+    → found ≡ foundFirst (l .conflict) (foundFirst (r .conflict) own)
     → Joins choice i l r (record { nullable = l .nullable || r .nullable; first = first; after = after; conflict = found })
 unfolding Joins
 joins-choice i l r first after own found f a n o s p q x y h = record {
@@ -79,8 +79,8 @@ pub joins-sequence : (i : ℕ) (l r : PartSets) (any : Bool) (begins follows end
     → Exactly ended (λ c. Has (l .after) c ⊎ Has follows c)
     → Exactly last (λ c. So (r .nullable) × Has ended c)
     → Exactly after (λ c. Has (r .after) c ⊎ Has last c)
-    → own ≡ orElse two three
-    → found ≡ orElse (l .conflict) (orElse (r .conflict) own)
+    → own ≡ foundFirst two three
+    → found ≡ foundFirst (l .conflict) (foundFirst (r .conflict) own)
     → Joins sequence i l r (record { nullable = l .nullable && r .nullable; first = first; after = after; conflict = found })
 unfolding Joins
 joins-sequence i l r any begins follows ended last first after two three own found hp hany hf n2 n3 h1 he hl ha w o s p q x y h =
@@ -93,8 +93,8 @@ joins-sequence i l r any begins follows ended last first after two three own fou
       firsts = λ c. Iff·trans (h1 c) (iff-or (x .firsts c) (begun c));
       afters = λ c. Iff·trans (ha c) (iff-or (y .afters c) (Iff·trans (hl c) (Iff·and (may-be-empty y) (ends c))));
       conflicts = rw (o, w)
-          (names-two s p q (sequence p q) (l .conflict) (r .conflict) (orElse two three) refl (x .conflicts) (y .conflicts)
-          (names-same (sequence-own (root s (sequence p q)) i h p q (l .first) (r .first) (l .after) begins (x .firsts) (y .firsts) (x .afters) begun) (orElse two three)
+          (names-two s p q (sequence p q) (l .conflict) (r .conflict) (foundFirst two three) refl (x .conflicts) (y .conflicts)
+          (names-same (sequence-own (root s (sequence p q)) i h p q (l .first) (r .first) (l .after) begins (x .firsts) (y .firsts) (x .afters) begun) (foundFirst two three)
           (names-either (kinds-ahead i (l .first) begins (l .after) (r .first)) two three n2 n3)));
     }
 
@@ -115,7 +115,7 @@ pub over-body : (i lower upper read : ℕ) (b : PartSets) (again flexible : Bool
     → Exactly mayFollow (λ c. So flexible × Has (b .first) c)
     → Names (SharedAt i 4 (b .after) follows) own
     → Exactly after (λ c. Has (b .after) c ⊎ Has mayFollow c)
-    → found ≡ orElse (b .conflict) own
+    → found ≡ foundFirst (b .conflict) own
     → OverBody i lower upper b (record { nullable = eqb read 0 || b .nullable; first = b .first; after = after; conflict = found })
 unfolding OverBody
 over-body i lower upper read b again flexible follows mayFollow after own found told hagain hflex hg hm n ha o s e x h =

@@ -6,7 +6,7 @@ use Prim.Native.Nat.{ℕ, _<_}
 use native.Mathlib.Omega.{arith}
 use native.Mathlib.Nat.{le-of-eq}
 use Rattle.codes.specs.Codes.{Least, Shared}
-use Rattle.judge.specs.Lowest.{Conflicts, Lowest, Names, SharedAt, orElse}
+use Rattle.judge.specs.Lowest.{Conflicts, Lowest, Names, SharedAt, foundFirst}
 use Rattle.judge.specs.declared.conflict.Found.{Found}
 use Rattle.judge.specs.declared.conflict.Found.the-variants.{Nothing, At}
 
@@ -38,7 +38,7 @@ names-first ahead i k c n = record {
   lowest-code = λ d. ⊎-elim (n .lowest-code d) (λ s. ⊎-elim (λ h. absurd (omega arith)) (λ h. let g = h .1 in absurd (omega arith)) (ahead i k c i k d (n .there) s));
 }
 
-pub names-either : {R S : Conflicts} → Ahead R S → (x y : Found) → Names R x → Names S y → Names (Either R S) (orElse x y)
+pub names-either : {R S : Conflicts} → Ahead R S → (x y : Found) → Names R x → Names S y → Names (Either R S) (foundFirst x y)
 unfolding Names
 names-either ahead Nothing y n m = names-same (λ i k c. (inr, ⊎-elim (λ r. absurd (n i k c r)) (λ s. s))) y m
 names-either ahead (At i k c) y n m = names-first ahead i k c n

@@ -22,9 +22,9 @@ Names R Nothing = (i k c : ℕ) → ¬ R i k c
 Names R (At i k c) = Lowest R i k c
 
 -- what is found first
-abbrev pub orElse : Found → Found → Found
-orElse Nothing y = y
-orElse (At i k c) y = At i k c
+abbrev pub foundFirst : Found → Found → Found
+foundFirst Nothing y = y
+foundFirst (At i k c) y = At i k c
 
 -- the conflicts of one node and one kind: the codes that two sets share
 abbrev pub SharedAt : ℕ → ℕ → ℕ → ℕ → Conflicts

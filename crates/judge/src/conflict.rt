@@ -1,6 +1,6 @@
 // The lowest conflict of a part: by node, there by kind, then by code.
 ghost use mathlib.Core.Path.{_≡_};
-ghost use Rattle.judge.specs.Lowest.{Names, SharedAt, orElse};
+ghost use Rattle.judge.specs.Lowest.{Names, SharedAt, foundFirst};
 use codes::Overlap;
 
 // What a search for conflicts finds.
@@ -22,7 +22,7 @@ pub const REPEAT: u32 = 4;
 
 // What is found first: `a`, where it is something, or else `b`.
 pub fn or_else(a: Found, b: Found) -> Found
-    ensures { λ r. ⌜ r ≡ orElse a b ⌝ }
+    ensures { λ r. ⌜ r ≡ foundFirst a b ⌝ }
 {
     match a {
         Found::At(_, _, _) => a,

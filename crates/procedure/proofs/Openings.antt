@@ -4,6 +4,7 @@ use mathlib.Core.Bool.{Bool}
 use mathlib.Core.List.{List}
 use Prim.Native.Nat.{ℕ, suc, _-_, _≤_, _<_}
 use native.Mathlib.Omega.{arith}
+use Rattle.meaning.specs.Expr.{Expr}
 use Rattle.meaning.specs.Node.{Node, InOrder, InTable, repeatsBelow}
 use Rattle.meaning.specs.File.{Framed, Refused, TableBelow, WellFormed, by-order, by-record, by-repeats, by-root, count, nodeAt}
 use Rattle.meaning.specs.declared.Refusal.the-variants.{Order, Record, Repeats}
@@ -52,37 +53,54 @@ module _ (f nodes : List ℕ) (n : ℕ) (framed : Framed f) (here : n ≡ count 
         (e ∙ here)
     out-of-order (whole b) h = absurd (omega arith)
 
-    -- the nodes are one part
-    module _ (b : Spans (held nodes) 0 (n - 1)) where
-      formed : WellFormed f (b .0)
-      formed =
-          let r = root-size 0 (b .0) in
-          let first = framed .2 .0 in
-          record {
-            framed = framed;
-            table = kept;
-            lists = (stands-same (held nodes) (nodeAt f) n 0 (b .0) tied (omega (arith, b .2)) (b .1), omega (arith, b .2));
-          }
+-- the nodes of the file are one part, and each keeps to the table: none of 1 to 5 applies
+pub record OnePart (f nodes : List ℕ) (n : ℕ) : Type 0 where
+  pub framed : Framed f
+  pub counted : n ≡ count f
+  pub tied : Tied f nodes n
+  pub table : (j : ℕ) → j < n → InTable (held nodes j)
+  pub part : Spans (held nodes) 0 (n - 1)
 
-      pub too-many : (i : ℕ) → (i < n) × (repeatsBelow (held nodes) i ≡ 32) × (repeatsBelow (held nodes) (suc i) ≡ 33) → Refused f (Repeats i)
-      too-many i p =
-          let same = same-count (held nodes) (nodeAt f) n tied in
-          by-repeats (b .0) i formed (omega (arith, p .0)) (sym (same i (omega (arith, p .0))) ∙ p .1) (sym (same (suc i) (p .0)) ∙ p .2)
+module _ {f nodes : List ℕ} {n : ℕ} (o : OnePart f nodes n) where
+  expr : Expr
+  expr = o .part .0
 
-      pub filled : (starts : List ℕ) (nulls : List Bool) (list : List ℕ) (r : ℕ) → TellsStarts (held nodes) starts n → TellsNulls (held nodes) nulls n
-          → TellsRepeats (held nodes) list n r → r ≤ 32 → Filled f nodes starts nulls list n r
-      filled starts nulls list r begun empties ranked few =
-          let same = same-count (held nodes) (nodeAt f) n tied n (omega arith) ∙ ap (repeatsBelow (nodeAt f)) here in
-          let size = root-size 0 (b .0) in
-          let most = framed .2 .1 in
-          record {
-            expr = b .0;
-            holds = record { formed = formed; few = omega (arith, ranked .counted) };
-            tables = record {
-              listing = record { stands = b .1; sized = omega (arith, b .2, framed .2 .0); few = omega arith; table = table };
-              begun = begun;
-              empties = empties;
-              ranked = ranked;
-              few-repeats = few;
-            };
-          }
+  formed : WellFormed f expr
+  unfolding expr
+  formed =
+      let r = root-size 0 expr in
+      let here = o .counted in
+      let last = o .part .2 in
+      let first = o .framed .2 .0 in
+      record {
+        framed = o .framed;
+        table = kept f nodes n (o .framed) here (o .tied) (o .table);
+        lists = (stands-same (held nodes) (nodeAt f) n 0 expr (o .tied) (omega arith) (o .part .1), omega arith);
+      }
+
+  pub too-many : (i : ℕ) → (i < n) × (repeatsBelow (held nodes) i ≡ 32) × (repeatsBelow (held nodes) (suc i) ≡ 33) → Refused f (Repeats i)
+  too-many i p =
+      let same = same-count (held nodes) (nodeAt f) n (o .tied) in
+      by-repeats expr i formed (omega (arith, p .0, o .counted)) (sym (same i (omega (arith, p .0))) ∙ p .1) (sym (same (suc i) (p .0)) ∙ p .2)
+
+  pub filled : (starts : List ℕ) (nulls : List Bool) (list : List ℕ) (r : ℕ) → TellsStarts (held nodes) starts n → TellsNulls (held nodes) nulls n
+      → TellsRepeats (held nodes) list n r → r ≤ 32 → Filled f nodes starts nulls list n r
+  unfolding expr
+  filled starts nulls list r begun empties ranked few =
+      let same = same-count (held nodes) (nodeAt f) n (o .tied) n (omega arith) ∙ ap (repeatsBelow (nodeAt f)) (o .counted) in
+      let size = root-size 0 expr in
+      let last = o .part .2 in
+      let here = o .counted in
+      let most = o .framed .2 .1 in
+      let first = o .framed .2 .0 in
+      record {
+        expr = expr;
+        holds = record { formed = formed; few = omega (arith, ranked .counted) };
+        tables = record {
+          listing = record { stands = o .part .1; sized = omega arith; few = omega arith; table = o .table };
+          begun = begun;
+          empties = empties;
+          ranked = ranked;
+          few-repeats = few;
+        };
+      }

@@ -8,7 +8,7 @@ use native.Mathlib.Omega.{arith}
 use Rattle.meaning.specs.declared.Refusal.the-variants.{Unreached}
 use Rattle.meaning.specs.declared.PromptAnswer.the-variants as prompt
 use Rattle.meaning.specs.Bytes.{twoAt}
-use Rattle.meaning.specs.theory.Places.{codeOf, nodeOf}
+use Rattle.meaning.specs.theory.Places.{codeAt, nodeOf}
 use Rattle.meaning.specs.theory.Spots.{Spot, start, behind}
 use Rattle.meaning.proofs.general.Twos.{first-two}
 use Rattle.meaning.specs.Codes.{Has}
@@ -37,7 +37,7 @@ stood-event : {nodes : List ℕ} {n : ℕ} (e : Expr) (k : Spot e) (node : ℕ) 
 stood-event e start node counts listing s some = absurd (omega (arith, s .0))
 stood-event {nodes} e (behind p) node counts listing s some =
     let here : node - 1 ≡ nodeOf 0 e p = omega (arith, s .0) in
-    ap (λ (i : ℕ). kindOf (held nodes i)) here ∙ ap kindOf (part-stands (held nodes) 0 e (nodeOf 0 e p) (codeOf e p) (listing .stands) (place-part 0 e p))
+    ap (λ (i : ℕ). kindOf (held nodes i)) here ∙ ap kindOf (part-stands (held nodes) 0 e (nodeOf 0 e p) (codeAt e p) (listing .stands) (place-part 0 e p))
 
 pub read-event : {nodes : List ℕ} {n : ℕ} (e : Expr) (bytes counts : List ℕ) (a : Read) (node : ℕ) → Listing nodes n e → ReadOf e bytes counts a
     → a ≡ read.Reached node → 1 ≤ node → kindOf (held nodes (node - 1)) ≡ 1

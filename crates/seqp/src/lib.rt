@@ -8,9 +8,9 @@ use meaning::JudgeAnswer;
 use meaning::PromptAnswer;
 use meaning::WriteAnswer;
 
-mod numbers; // numbers.rt: a refusal and a verdict as the request's numbers
+mod rows; // rows.rt: a refusal and a verdict as the request's numbers
 
-// Judge: 0 to 7; the node, kind and code of a conflict, or 0.
+// Judge: 0 to 7; the node that is named, the kind and the code of a conflict, or 0.
 #[no_mangle]
 pub extern "C" fn seq_judge(file: &[u8], node: &mut u32, kind: &mut u32, code: &mut u32) -> u32
     ensures { λ r. ⌜ JudgePromise (now (file .entry)) (judged r (now (node .exit)) (now (kind .exit)) (now (code .exit))) ⌝ }
@@ -22,10 +22,10 @@ pub extern "C" fn seq_judge(file: &[u8], node: &mut u32, kind: &mut u32, code: &
         JudgeAnswer::Admitted => 0,
         JudgeAnswer::Refused(refusal) => {
             // At most 511: a file has at most 512 nodes.
-            *node = numbers::node_of(refusal) as u32;
-            *kind = numbers::kind_of(refusal);
-            *code = numbers::code_of(refusal);
-            numbers::number_of(refusal)
+            *node = rows::node_of(refusal) as u32;
+            *kind = rows::kind_of(refusal);
+            *code = rows::code_of(refusal);
+            rows::number_of(refusal)
         }
     }
 }
@@ -46,10 +46,10 @@ pub extern "C" fn seq_follow(
     match follow::follow(file, state, events) {
         FollowAnswer::Followed(count, stands) => {
             *taken = count;
-            *verdict = numbers::verdict_of(stands);
+            *verdict = rows::verdict_of(stands);
             0
         }
-        FollowAnswer::Refused(refusal) => numbers::number_of(refusal),
+        FollowAnswer::Refused(refusal) => rows::number_of(refusal),
     }
 }
 
@@ -64,7 +64,7 @@ pub extern "C" fn seq_write(file: &[u8], run: &[u8], space: &mut [u8], length: &
             *length = bytes;
             0
         }
-        WriteAnswer::Refused(refusal) => numbers::number_of(refusal),
+        WriteAnswer::Refused(refusal) => rows::number_of(refusal),
     }
 }
 
@@ -80,7 +80,7 @@ pub extern "C" fn seq_check(file: &[u8], bytes: &[u8], yes: &mut u32) -> u32
             0
         }
         CheckAnswer::No => 0,
-        CheckAnswer::Refused(refusal) => numbers::number_of(refusal),
+        CheckAnswer::Refused(refusal) => rows::number_of(refusal),
     }
 }
 
@@ -95,6 +95,6 @@ pub extern "C" fn seq_prompt(file: &[u8], state: &[u8], set: &mut u64) -> u32
             *set = codes;
             0
         }
-        PromptAnswer::Refused(refusal) => numbers::number_of(refusal),
+        PromptAnswer::Refused(refusal) => rows::number_of(refusal),
     }
 }

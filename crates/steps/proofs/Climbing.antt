@@ -27,7 +27,7 @@ use Rattle.procedure.proofs.Empties.{null-of-part}
 use Rattle.procedure.proofs.Orders.{start-of-part}
 use Rattle.plan.specs.Plan.{aboveAt, beginsOf, Planned, rankAt, startAt}
 use Rattle.meaning.specs.theory.Counts.{Clear, Held, most, repeats}
-use Rattle.steps.specs.Counts.{MarksUp, done, next, oneMore, raised, Turned}
+use Rattle.steps.specs.Counts.{MarksUp, done, next, oneMore, raised, TurnedTo}
 use Rattle.steps.specs.Climb.{allowed, lookInto, lookRepeat, lookOf, Climbs, past, turns, stops, on}
 use Rattle.plan.proofs.Beginnings.{BeginsWith, begins-by-test, does, does-not, Target}
 use Rattle.meaning.proofs.file.Ranks.{repeats-past}
@@ -58,7 +58,7 @@ module _ (nodes starts : List ℕ) (nulls : List Bool) (plan counts : List ℕ) 
   -- where the way up from a place of the part leads, whose next node above is a
   pub data Outcome (s k : ℕ) (e : Expr) (p : Place e) (a : ℕ) (r : Turn) : Type 0 where
     turned : (x : ℕ) (t : Place e) → r ≡ At x → way s e p q ≡ turns t → nodeOf s e t ≡ q
-        → ((z : List ℕ) → Turned nodes starts nulls plan x q counts z → Held z k e t × Beside counts z k (repeats e))
+        → ((z : List ℕ) → TurnedTo nodes starts nulls plan x q counts z → Held z k e t × Beside counts z k (repeats e))
         → Outcome s k e p a r
     ended : way s e p q ≡ ends → Climbs nodes starts nulls plan counts n q a r → Outcome s k e p a r
     halted : way s e p q ≡ stuck → r ≡ Stuck → Outcome s k e p a r
@@ -111,7 +111,7 @@ module _ (nodes starts : List ℕ) (nulls : List Bool) (plan counts : List ℕ) 
   module _ {s k a i : ℕ} {l r : Expr} {to : Turn} {p : Place l} where
     into-right : {b : Bool} → BeginsWith (s + size l) r q b → (nr : Bool) → nullable r ≡ nr → i < n
         → lookOf nodes starts nulls plan counts i q ≡ cond b Turns (cond nr On Stops)
-        → ((t : Place r) → CanStart r t → nodeOf (s + size l) r t ≡ q → (z : List ℕ) → Turned nodes starts nulls plan i q counts z
+        → ((t : Place r) → CanStart r t → nodeOf (s + size l) r t ≡ q → (z : List ℕ) → TurnedTo nodes starts nulls plan i q counts z
         → (Clear z k (repeats l) × Held z (k + repeats l) r t) × Beside counts z k (repeats l + repeats r))
         → aboveAt plan i ≡ a → way s l p q ≡ ends → Climbs nodes starts nulls plan counts n q i to → Outcome s k (sequence l r) (inl p) a to
     into-right (does t e c m) nr en h look f up w climb =
@@ -131,7 +131,7 @@ module _ (nodes starts : List ℕ) (nulls : List Bool) (plan counts : List ℕ) 
   module _ {s k a i : ℕ} {b : Expr} (lower : ℕ) (upper : Upper) {to : Turn} (p : Place b × ℕ) where
     into-body : {d : Bool} → BeginsWith s b q d → (more enough : Bool) → another (p .1) upper ≡ more → leb (low (nullable b) lower) (suc (p .1)) ≡ enough → i < n
         → lookOf nodes starts nulls plan counts i q ≡ cond (d && more) Turns (cond enough On Stops)
-        → (more ≡ true → (t : Place b) → CanStart b t → nodeOf s b t ≡ q → (z : List ℕ) → Turned nodes starts nulls plan i q counts z
+        → (more ≡ true → (t : Place b) → CanStart b t → nodeOf s b t ≡ q → (z : List ℕ) → TurnedTo nodes starts nulls plan i q counts z
         → Held z k (repeat b lower upper) (t, suc (p .1)) × Beside counts z k (repeats b + 1))
         → aboveAt plan i ≡ a → way s b (p .0) q ≡ ends → Climbs nodes starts nulls plan counts n q i to → Outcome s k (repeat b lower upper) p a to
     into-body (does t e c m) true enough em en h look f up w climb =
@@ -181,7 +181,7 @@ module _
   -- a turn at a sequence
   turned-sequence : (s k : ℕ) (l r : Expr) (a h : ℕ) → Stands (held nodes) s (sequence l r) → Planned plan s (sequence l r) a h
       → s + size l + size r < n → s + size l + size r < a → k ≡ repeatsBelow (held nodes) s
-      → (t : Place r) → CanStart r t → nodeOf (s + size l) r t ≡ q → (z : List ℕ) → Turned nodes starts nulls plan (s + size l + size r) q counts z
+      → (t : Place r) → CanStart r t → nodeOf (s + size l) r t ≡ q → (z : List ℕ) → TurnedTo nodes starts nulls plan (s + size l + size r) q counts z
       → (Clear z k (repeats l) × Held z (k + repeats l) r t) × Beside counts z k (repeats l + repeats r)
   turned-sequence s k l r a h st pl fit up e t can m z w =
       let i = s + size l + size r in
@@ -260,7 +260,7 @@ module _
     -- a turn at a repeat
     turned-repeat : (a h p : ℕ) → Planned plan s (repeat b lower upper) a h
         → getD counts (k + repeats b) 0 ≡ stop (low (nullable b) lower) upper (suc p) → another p upper ≡ true
-        → (t : Place b) → CanStart b t → nodeOf s b t ≡ q → (z : List ℕ) → Turned nodes starts nulls plan (s + size b) q counts z
+        → (t : Place b) → CanStart b t → nodeOf s b t ≡ q → (z : List ℕ) → TurnedTo nodes starts nulls plan (s + size b) q counts z
         → Held z k (repeat b lower upper) (t, suc p) × Beside counts z k (repeats b + 1)
     turned-repeat a h p pl held′ more t can m z w =
         let i = s + size b in

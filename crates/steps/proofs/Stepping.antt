@@ -17,7 +17,7 @@ use Rattle.steps.specs.declared.climb.Turn.the-variants.{At, Ends, Stuck
 use Rattle.procedure.proofs.Orders.{start-of-part}
 use Rattle.plan.specs.Plan.{aboveAt, beginsOf, Plans, rankAt, Rises, top}
 use Rattle.meaning.specs.theory.Counts.{Held, Marked, repeats, Unmarked}
-use Rattle.steps.specs.Counts.{MarksUp, done, next, Turned}
+use Rattle.steps.specs.Counts.{MarksUp, done, next, TurnedTo}
 use Rattle.steps.specs.Climb.{Climbs, past, turns, stops, on}
 use Rattle.steps.specs.Step.{Stepped, steps, stays, Started, starts, Ended, ended, open-yet}
 use Rattle.plan.proofs.Beginnings.{BeginsWith, at, begins-by-test, does, does-not, past, Target}
@@ -35,7 +35,7 @@ marks-long (done h) = refl
 marks-long {nodes} {plan} {x} {y} {c} {d} (next h w) =
     marks-long w ∙ long-if (eqb (kindOf (held nodes y)) 4) (set c (rankAt plan y) 1) c (length-set c (rankAt plan y) 1)
 
-turned-long : (nodes begun : List ℕ) (nulls : List Bool) (plan : List ℕ) (x q : ℕ) (c d : List ℕ) → Turned nodes begun nulls plan x q c d → length d ≡ length c
+turned-long : (nodes begun : List ℕ) (nulls : List Bool) (plan : List ℕ) (x q : ℕ) (c d : List ℕ) → TurnedTo nodes begun nulls plan x q c d → length d ≡ length c
 turned-long nodes begun nulls plan x q c d w =
     marks-long (w .2) ∙ long-if (eqb (kindOf (held nodes x)) 4) _ (w .0) (length-set (w .0) (rankAt plan x) _) ∙ w .1 .long
 
@@ -52,7 +52,7 @@ climbs-at up h (on {x = y} l f w) e = climbs-at up (omega (arith, up y l .up)) w
 
 data Finish (nodes begun : List ℕ) (nulls : List Bool) (plan counts : List ℕ) (q : ℕ) (e : Expr) (p : Place e) (r : Turn) : Type 0 where
   goes : (x : ℕ) (t : Place e) → r ≡ At x → way 0 e p q ≡ turns t → nodeOf 0 e t ≡ q
-      → ((z : List ℕ) → Turned nodes begun nulls plan x q counts z → Marked z e t)
+      → ((z : List ℕ) → TurnedTo nodes begun nulls plan x q counts z → Marked z e t)
       → Finish nodes begun nulls plan counts q e p r
   finishes : r ≡ Ends → way 0 e p q ≡ ends → Finish nodes begun nulls plan counts q e p r
   halts : r ≡ Stuck → way 0 e p q ≡ stuck → Finish nodes begun nulls plan counts q e p r
@@ -115,12 +115,12 @@ module _
     (here : nodeOf 0 e p ≡ v)
     (m : Marked counts e p)
     (w : Climbs nodes begun nulls plan counts n q (aboveAt plan v) r) where
-  pub step-turns : (x : ℕ) (d : List ℕ) → kindOf (held nodes q) ≡ 1 → r ≡ At x → Turned nodes begun nulls plan x q counts d → Stepped e p q true counts d
+  pub step-turns : (x : ℕ) (d : List ℕ) → kindOf (held nodes q) ≡ 1 → r ≡ At x → TurnedTo nodes begun nulls plan x q counts d → Stepped e p q true counts d
   step-turns x d k f u = by (finish nodes begun nulls plan counts n q e p v r pl (at k) here m w)
     where
       by : Finish nodes begun nulls plan counts q e p r → Stepped e p q true counts d
       by (goes y t g h i mk) =
-          let same : x ≡ y = cc in steps t h i (mk d (subst (λ (v : ℕ). Turned nodes begun nulls plan v q counts d) same u))
+          let same : x ≡ y = cc in steps t h i (mk d (subst (λ (v : ℕ). TurnedTo nodes begun nulls plan v q counts d) same u))
       by (finishes g h) = absurd (let z : _≡_ {A = ℕ} 0 1 = cc in omega arith)
       by (halts g h) = absurd (let z : _≡_ {A = ℕ} 0 1 = cc in omega arith)
 

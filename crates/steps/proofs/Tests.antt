@@ -18,7 +18,7 @@ use Rattle.procedure.proofs.Limits.{enough-test}
 use Rattle.plan.specs.Plan.{aboveAt, rankAt, startAt}
 use Rattle.plan.proofs.Tests.{taken-as}
 use Rattle.steps.specs.Climb.{allowed}
-use Rattle.steps.specs.Counts.{marked, MarksUp, next, Cleared, oneMore, raised, Turned}
+use Rattle.steps.specs.Counts.{marked, MarksUp, next, Cleared, oneMore, raised, TurnedTo}
 
 -- ---- the counters
 
@@ -105,5 +105,5 @@ mark-one {nodes} {plan} {x} {y} {u} {c} {l} {z} h e f w =
 pub turned-by : {nodes : List ℕ} (starts : List ℕ) (nulls : List Bool) {plan : List ℕ} {x : ℕ} (q : ℕ) {c z l d : List ℕ}
     → Cleared (rankAt plan (startAt starts x)) (rankAt plan x) c z → l ≡ raised nodes nulls plan x z
     → MarksUp nodes plan x (aboveAt plan q) l d
-    → Turned nodes starts nulls plan x q c d
+    → TurnedTo nodes starts nulls plan x q c d
 turned-by {nodes} starts nulls {plan} {x} q {c} {z} {l} {d} w e s = (z, w, subst (λ (k : List ℕ). MarksUp nodes plan x (aboveAt plan q) k d) e s)

@@ -39,6 +39,6 @@ raised nodes nulls plan x c =
     c
 
 -- the counters after a turn at node x towards event node q
-abbrev pub Turned : List ℕ → List ℕ → List Bool → List ℕ → ℕ → ℕ → List ℕ → List ℕ → Type 0
-Turned nodes starts nulls plan x q c d =
+abbrev pub TurnedTo : List ℕ → List ℕ → List Bool → List ℕ → ℕ → ℕ → List ℕ → List ℕ → Type 0
+TurnedTo nodes starts nulls plan x q c d =
     (z : List ℕ) × Cleared (rankAt plan (startAt starts x)) (rankAt plan x) c z × MarksUp nodes plan x (aboveAt plan q) (raised nodes nulls plan x z) d

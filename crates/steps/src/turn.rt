@@ -4,7 +4,7 @@ ghost use mathlib.Core.List.{List};
 ghost use Prim.Native.Nat.{ℕ, _+_, _≤_, _<_};
 ghost use Rattle.procedure.specs.Entry.{unpacked};
 ghost use Rattle.plan.specs.Plan.{aboveAt, startAt, rankAt, Ranked, Rises};
-ghost use Rattle.steps.specs.Counts.{marked, MarksUp, Cleared, oneMore, raised, Turned};
+ghost use Rattle.steps.specs.Counts.{marked, MarksUp, Cleared, oneMore, raised, TurnedTo};
 use plan::link;
 use procedure::bounds;
 use procedure::entry;
@@ -104,7 +104,7 @@ pub fn turn(
     requires { ⌜ x < 512 ⌝ }
     requires { ⌜ q < 512 ⌝ }
     requires { ⌜ Rises (now nodes) (now starts) (now plan) (x + 1) ⌝ }
-    ensures { λ _. ⌜ Turned (now (nodes .entry)) (now (starts .entry)) (now (nulls .entry)) (now (plan .entry)) x q (now (counts .entry)) (now (counts .exit)) ⌝ }
+    ensures { λ _. ⌜ TurnedTo (now (nodes .entry)) (now (starts .entry)) (now (nulls .entry)) (now (plan .entry)) x q (now (counts .entry)) (now (counts .exit)) ⌝ }
 {
     clear_part(starts, plan, counts, x);
     raise(nodes, nulls, plan, counts, x);

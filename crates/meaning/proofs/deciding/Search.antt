@@ -8,7 +8,7 @@ use Rattle.meaning.specs.Expr.{Expr, Bounded}
 use Rattle.meaning.specs.Word.{Word, Begins}
 use Rattle.meaning.specs.Reading.{Item, Reading, codes, upTo}
 use Rattle.meaning.specs.State.{State, stateOf, Reaches, reaches}
-use Rattle.meaning.specs.theory.Places.{codeOf}
+use Rattle.meaning.specs.theory.Places.{codeAt}
 use Rattle.meaning.specs.theory.Spots.{Spot, start, behind, CanStop}
 use Rattle.meaning.proofs.deciding.Listed.{Listed, only, kept, each, mapped, image, some, decided}
 use Rattle.meaning.proofs.expressions.Items.{codes-append, codes-upTo}
@@ -20,7 +20,7 @@ use Rattle.meaning.proofs.deciding.Moves.{moves-list, stop-decided}
 arrivals : (e : Expr) (k : Spot e) (u : List ℕ) → Listed (Arrives e k u)
 unfolding only kept each mapped moves-list ℕ-discrete
 arrivals e k [] = only (k, [])
-arrivals e k (c ∷ u) = each (kept (moves-list e k) (λ v. ℕ-discrete (codeOf e (v .0)) c)) (λ v. mapped (onto e v) (arrivals e (behind (v .0)) u))
+arrivals e k (c ∷ u) = each (kept (moves-list e k) (λ v. ℕ-discrete (codeAt e (v .0)) c)) (λ v. mapped (onto e v) (arrivals e (behind (v .0)) u))
 
 -- a way to where a reading may stop is a reading with the run's codes
 pub arrives-reading : (e : Expr) → Bounded e → (u : List ℕ) (w : Arrival e) → Arrives e start u w → CanStop e (w .0)

@@ -13,7 +13,7 @@ use Rattle.meaning.specs.Word.{Word}
 use Rattle.meaning.specs.Reading.{Item, place, codes}
 use Rattle.meaning.specs.Sets.{First, After, FirstWorded, AfterWorded}
 use Rattle.meaning.specs.Conflict.{ConflictAt, LowestConflict}
-use Rattle.meaning.specs.theory.Places.{Place, codeOf, itemOf, Sound, CanStart, CanEnd, opens, closes, Step, Rest}
+use Rattle.meaning.specs.theory.Places.{Place, codeAt, itemOf, Sound, CanStart, CanEnd, opens, closes, Step, Rest}
 use Rattle.meaning.specs.theory.Conflicts.{Free}
 use Rattle.meaning.proofs.expressions.Items.{codes-append}
 use Rattle.meaning.proofs.places.Marks.{Marks, marks-codes, codes-before-marks, codes-behind-marks, opens-marks, closes-marks, step-marks}
@@ -45,7 +45,7 @@ after-worded e h c a =
 record NextEvent (s : ℕ) (e : Expr) (R : Place e → Type 0) (d : ℕ) (v : List ℕ) : Type 0 where
   reached : Place e
   way : R reached
-  code : codeOf e reached ≡ d
+  code : codeAt e reached ≡ d
   behind : List Item
   rest : Rest s e reached behind
   coded : codes behind ≡ v

@@ -9,11 +9,11 @@ use Rattle.meaning.specs.Expr.{Expr, empty, event, choice, sequence, rep
 use Rattle.meaning.specs.Normal.{nullable, low, isZero}
 use Rattle.meaning.specs.Reading.{Item}
 use Rattle.meaning.specs.Sets.{First, After, Starts, Flexible}
-use Rattle.meaning.specs.theory.Places.{Place, codeOf, Sound, CanStart, CanEnd, Step}
+use Rattle.meaning.specs.theory.Places.{Place, codeAt, Sound, CanStart, CanEnd, Step}
 use Rattle.meaning.proofs.general.Facts.{within-le, within-max, low-le}
 
 -- a place that can start has a code of first
-pub start-first : (e : Expr) (q : Place e) → CanStart e q → First e (codeOf e q)
+pub start-first : (e : Expr) (q : Place e) → CanStart e q → First e (codeAt e q)
 start-first empty q c = absurd c
 start-first (event d) q c = refl
 start-first (choice l r) (inl q) c = inl (start-first l q c)
@@ -23,7 +23,7 @@ start-first (sequence l r) (inr q) c = inr (c .0, start-first r q (c .1))
 start-first (repeat b lower upper) q c = start-first b (q .0) (c .0)
 
 -- a code of first is that of a place that can start
-pub first-start : (e : Expr) → Bounded e → (c : ℕ) → First e c → (q : Place e) × CanStart e q × (codeOf e q ≡ c)
+pub first-start : (e : Expr) → Bounded e → (c : ℕ) → First e c → (q : Place e) × CanStart e q × (codeAt e q ≡ c)
 first-start empty h c f = absurd f
 first-start (event d) h c f = (tt, tt, sym f)
 first-start (choice l r) h c (inl f) = let t = first-start l (h .0) c f in (inl (t .0), t .1, t .2)
@@ -60,7 +60,7 @@ flexible : (upper : Upper) (lower k : ℕ) → lower ≤ suc k → Within (suc (
 flexible upper lower k h w = (within-le _ _ upper (omega arith) w, within-le _ _ upper (omega arith) w)
 
 -- where a place can end and can go on to another, the code of that one is in after
-pub end-step-after : (s : ℕ) (e : Expr) → Bounded e → (p q : Place e) (m : List Item) → Sound e p → CanEnd e p → Step s e p q m → After e (codeOf e q)
+pub end-step-after : (s : ℕ) (e : Expr) → Bounded e → (p q : Place e) (m : List Item) → Sound e p → CanEnd e p → Step s e p q m → After e (codeAt e q)
 end-step-after s empty h p q m k c t = absurd t
 end-step-after s (event d) h p q m k c t = absurd t
 end-step-after s (choice l r) h (inl p) (inl q) m k c t = inl (end-step-after s l (h .0) p q m k c t)
@@ -83,7 +83,7 @@ pub record EndsAndGoes (s : ℕ) (e : Expr) (c : ℕ) : Type 0 where
   pub sound : Sound e here
   pub canEnd : CanEnd e here
   pub step : Step s e here next marks
-  pub code : codeOf e next ≡ c
+  pub code : codeAt e next ≡ c
 
 -- a sound place that can end
 abbrev EndsHere : Expr → Type 0

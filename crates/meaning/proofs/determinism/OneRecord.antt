@@ -11,7 +11,7 @@ use Rattle.meaning.specs.Lists.{Cat, cat, one}
 use Rattle.meaning.specs.Reading.{Item, opening, closing, codes, upTo, Reading}
 use Rattle.meaning.specs.Strong.{StronglyDeterministic}
 use Rattle.meaning.specs.Word.{Word}
-use Rattle.meaning.specs.theory.Places.{Place, nodeOf, codeOf, itemOf, opens, closes, Before}
+use Rattle.meaning.specs.theory.Places.{Place, nodeOf, codeAt, itemOf, opens, closes, Before}
 use Rattle.meaning.specs.theory.Conflicts.{Free}
 use Rattle.meaning.proofs.places.Before.{reading-cut}
 use Rattle.meaning.proofs.general.Facts.{lastOr, last-append}
@@ -67,12 +67,12 @@ same-before-closes s e p q u a b =
 -- what completes a reading without an event is the closings of its place
 rest-no-event : (s : ℕ) (e : Expr) (p : Place e) (y : List Item) → length (codes y) ≡ 0 → Goes s e p y → y ≡ closes s e p
 rest-no-event s e p y h (ends c) = refl
-rest-no-event s e p y h (steps q m v t r) = let k = codes-event m (nodeOf s e q) (codeOf e q) v in absurd (omega arith)
+rest-no-event s e p y h (steps q m v t r) = let k = codes-event m (nodeOf s e q) (codeAt e q) v in absurd (omega arith)
 
 -- a reading without an event is empty
 reading-no-event : (s : ℕ) (e : Expr) (x : List Item) → length (codes x) ≡ 0 → Begun s e x → x ≡ []
 reading-no-event s e x h (nothing n) = refl
-reading-no-event s e x h (first q y c r) = let k = codes-event (opens s e q) (nodeOf s e q) (codeOf e q) y in absurd (omega arith)
+reading-no-event s e x h (first q y c r) = let k = codes-event (opens s e q) (nodeOf s e q) (codeAt e q) y in absurd (omega arith)
 
 -- the items are those up to the n-th event, and the closings of the place that these reach
 record Finished (e : Expr) (x : List Item) (n : ℕ) : Type 0 where

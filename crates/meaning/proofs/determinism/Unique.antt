@@ -10,7 +10,7 @@ use Rattle.meaning.specs.Reading.{Item, place, opening, closing, codes, 
 use Rattle.meaning.specs.Strong.{StronglyDeterministic}
 use Rattle.meaning.specs.Sets.{First, After}
 use Rattle.meaning.specs.Conflict.{Conflict, ConflictAt}
-use Rattle.meaning.specs.theory.Places.{Place, nodeOf, codeOf, itemOf, Sound, CanStart, CanEnd, opens, closes, Step, Rest}
+use Rattle.meaning.specs.theory.Places.{Place, nodeOf, codeAt, itemOf, Sound, CanStart, CanEnd, opens, closes, Step, Rest}
 use Rattle.meaning.specs.theory.Conflicts.{Free}
 use Rattle.meaning.proofs.general.Facts.{within-le}
 use Rattle.meaning.proofs.determinism.FirstAfter.{start-first, end-step-after}
@@ -55,22 +55,22 @@ free-iff-no-conflict s (repeat b lower upper) =
     )
 
 -- two places that can start with one code would share it in first of their parts
-both-start : (l r : Expr) (p : Place l) (q : Place r) → CanStart l p → CanStart r q → codeOf l p ≡ codeOf r q → First l (codeOf l p) × First r (codeOf l p)
+both-start : (l r : Expr) (p : Place l) (q : Place r) → CanStart l p → CanStart r q → codeAt l p ≡ codeAt r q → First l (codeAt l p) × First r (codeAt l p)
 both-start l r p q a b c = (start-first l p a, subst⁻¹ (First r) c (start-first r q b))
 
 -- from the start at most one way for a code
-pub start-unique : (e : Expr) → Bounded e → Free e → (p q : Place e) → CanStart e p → CanStart e q → codeOf e p ≡ codeOf e q → p ≡ q
+pub start-unique : (e : Expr) → Bounded e → Free e → (p q : Place e) → CanStart e p → CanStart e q → codeAt e p ≡ codeAt e q → p ≡ q
 start-unique empty h f p q a b c = absurd a
 start-unique (event d) h f p q a b c = refl
 start-unique (choice l r) h f (inl p) (inl q) a b c = ap inl (start-unique l (h .0) (f .0) p q a b c)
-start-unique (choice l r) h f (inl p) (inr q) a b c = let z = both-start l r p q a b c in absurd (f .2 1 (codeOf l p) (refl, z .0, z .1))
-start-unique (choice l r) h f (inr p) (inl q) a b c = let z = both-start l r q p b a (sym c) in absurd (f .2 1 (codeOf l q) (refl, z .0, z .1))
+start-unique (choice l r) h f (inl p) (inr q) a b c = let z = both-start l r p q a b c in absurd (f .2 1 (codeAt l p) (refl, z .0, z .1))
+start-unique (choice l r) h f (inr p) (inl q) a b c = let z = both-start l r q p b a (sym c) in absurd (f .2 1 (codeAt l q) (refl, z .0, z .1))
 start-unique (choice l r) h f (inr p) (inr q) a b c = ap inr (start-unique r (h .1) (f .1) p q a b c)
 start-unique (sequence l r) h f (inl p) (inl q) a b c = ap inl (start-unique l (h .0) (f .0) p q a b c)
 start-unique (sequence l r) h f (inl p) (inr q) a b c =
-    let z = both-start l r p q a (b .1) c in absurd (f .2 2 (codeOf l p) (inl (refl, b .0, z .0, z .1)))
+    let z = both-start l r p q a (b .1) c in absurd (f .2 2 (codeAt l p) (inl (refl, b .0, z .0, z .1)))
 start-unique (sequence l r) h f (inr p) (inl q) a b c =
-    let z = both-start l r q p b (a .1) (sym c) in absurd (f .2 2 (codeOf l q) (inl (refl, a .0, z .0, z .1)))
+    let z = both-start l r q p b (a .1) (sym c) in absurd (f .2 2 (codeAt l q) (inl (refl, a .0, z .0, z .1)))
 start-unique (sequence l r) h f (inr p) (inr q) a b c = ap inr (start-unique r (h .1) (f .1) p q (a .1) (b .1) c)
 start-unique (repeat body lower upper) h f p q a b c =
     let x = start-unique body (h .0) (f .0) (p .0) (q .0) (a .0) (b .0) c in
@@ -79,12 +79,12 @@ start-unique (repeat body lower upper) h f p q a b c =
 
 -- a step inside l and a start of r with one code would share it in after of l and first of r
 step-and-start : (s : ℕ) (l r : Expr) → Bounded l → (p q : Place l) (z : Place r) (m : List Item)
-    → Sound l p → CanEnd l p → Step s l p q m → CanStart r z → codeOf l q ≡ codeOf r z → After l (codeOf l q) × First r (codeOf l q)
+    → Sound l p → CanEnd l p → Step s l p q m → CanStart r z → codeAt l q ≡ codeAt r z → After l (codeAt l q) × First r (codeAt l q)
 step-and-start s l r h p q z m k e t a c = (end-step-after s l h p q m k e t, subst⁻¹ (First r) c (start-first r z a))
 
 -- from every place at most one way for a code, with one list of marks
 pub step-unique : (s : ℕ) (e : Expr) → Bounded e → Free e → (p : Place e) → Sound e p → (q r : Place e) (m n : List Item)
-    → Step s e p q m → Step s e p r n → codeOf e q ≡ codeOf e r → (q ≡ r) × (m ≡ n)
+    → Step s e p q m → Step s e p r n → codeAt e q ≡ codeAt e r → (q ≡ r) × (m ≡ n)
 step-unique s empty h f p k q z m n a b c = absurd a
 step-unique s (event d) h f p k q z m n a b c = absurd a
 step-unique s (choice l r) h f (inl p) k (inl q) (inl z) m n a b c =
@@ -98,9 +98,9 @@ step-unique s (choice l r) h f (inr p) k (inr q) (inr z) m n a b c =
 step-unique s (sequence l r) h f (inl p) k (inl q) (inl z) m n a b c =
     let i = step-unique s l (h .0) (f .0) p k q z m n a b c in (ap inl (i .0), i .1)
 step-unique s (sequence l r) h f (inl p) k (inl q) (inr z) m n a b c =
-    let i = step-and-start s l r (h .0) p q z m k (b .0) a (b .1) c in absurd (f .2 3 (codeOf l q) (inr (refl, i .0, i .1)))
+    let i = step-and-start s l r (h .0) p q z m k (b .0) a (b .1) c in absurd (f .2 3 (codeAt l q) (inr (refl, i .0, i .1)))
 step-unique s (sequence l r) h f (inl p) k (inr q) (inl z) m n a b c =
-    let i = step-and-start s l r (h .0) p z q n k (a .0) b (a .1) (sym c) in absurd (f .2 3 (codeOf l z) (inr (refl, i .0, i .1)))
+    let i = step-and-start s l r (h .0) p z q n k (a .0) b (a .1) (sym c) in absurd (f .2 3 (codeAt l z) (inr (refl, i .0, i .1)))
 step-unique s (sequence l r) h f (inl p) k (inr q) (inr z) m n a b c =
     let i = start-unique r (h .1) (f .1) q z (a .1) (b .1) c in
     (ap inr i, a .2 ∙ ap (λ x. closes s l p ++ opens (s + size l) r x) i ∙ sym (b .2))
@@ -115,10 +115,10 @@ step-unique s (repeat body lower upper) h f p k q z m n (inl a) (inl b) c =
     (λ j. (x j, y j), i .1)
 step-unique s (repeat body lower upper) h f p k q z m n (inl a) (inr b) c =
     let i = step-and-start s body body (h .0) (p .0) (q .0) (z .0) m (k .0) (b .0) (a .0) (b .1) c in
-    absurd (f .1 4 (codeOf body (q .0)) (refl, within-le _ _ upper (omega (arith, b .2)) (b .3), i .0, i .1))
+    absurd (f .1 4 (codeAt body (q .0)) (refl, within-le _ _ upper (omega (arith, b .2)) (b .3), i .0, i .1))
 step-unique s (repeat body lower upper) h f p k q z m n (inr a) (inl b) c =
     let i = step-and-start s body body (h .0) (p .0) (z .0) (q .0) n (k .0) (a .0) (b .0) (a .1) (sym c) in
-    absurd (f .1 4 (codeOf body (z .0)) (refl, within-le _ _ upper (omega (arith, a .2)) (a .3), i .0, i .1))
+    absurd (f .1 4 (codeAt body (z .0)) (refl, within-le _ _ upper (omega (arith, a .2)) (a .3), i .0, i .1))
 step-unique s (repeat body lower upper) h f p k q z m n (inr a) (inr b) c =
     let x = start-unique body (h .0) (f .0) (q .0) (z .0) (a .1) (b .1) c in
     let y = a .2 ∙ sym (b .2) in (
@@ -139,7 +139,7 @@ data StopsOrGoes (s : ℕ) (e : Expr) (w : List Item) (Via : Place e → List It
 record OneWay (e : Expr) (w : List Item) (Via : Place e → List Item → Type 0) : Type 0 where
   stop-no-event : codes w ≡ []
   way-no-event : (q : Place e) (m : List Item) → Via q m → codes m ≡ []
-  unique : (q r : Place e) (m n : List Item) → Via q m → Via r n → codeOf e q ≡ codeOf e r → (q ≡ r) × (m ≡ n)
+  unique : (q r : Place e) (m n : List Item) → Via q m → Via r n → codeAt e q ≡ codeAt e r → (q ≡ r) × (m ≡ n)
 
 -- the codes of marks and an event, and what follows
 take-event : (m y : List Item) (i c n : ℕ) → codes m ≡ [] → take (suc n) (codes (m ++ (place i c ∷ y))) ≡ c ∷ take n (codes y)
@@ -154,20 +154,20 @@ next-agree : (s : ℕ) (e : Expr) (w : List Item) (Via : Place e → List Item �
     → (n : ℕ) → ((q : Place e) → Agree n (Rest s e q)) → Agree (suc n) (StopsOrGoes s e w Via)
 next-agree s e w Via o n g y z stops stops t = refl
 next-agree s e w Via o n g y z stops (goesOn q m v a r) t =
-    absurd (one-stops w m v (nodeOf s e q) (codeOf e q) n (o .stop-no-event) (o .way-no-event q m a) t)
+    absurd (one-stops w m v (nodeOf s e q) (codeAt e q) n (o .stop-no-event) (o .way-no-event q m a) t)
 next-agree s e w Via o n g y z (goesOn q m v a r) stops t =
-    absurd (one-stops w m v (nodeOf s e q) (codeOf e q) n (o .stop-no-event) (o .way-no-event q m a) (sym t))
+    absurd (one-stops w m v (nodeOf s e q) (codeAt e q) n (o .stop-no-event) (o .way-no-event q m a) (sym t))
 next-agree s e w Via o n g y z (goesOn q m v a r) (goesOn q′ m′ v′ a′ r′) t =
     let k = o .way-no-event q m a in
     let k′ = o .way-no-event q′ m′ a′ in
-    let c = sym (take-event m v (nodeOf s e q) (codeOf e q) n k) ∙ t ∙ take-event m′ v′ (nodeOf s e q′) (codeOf e q′) n k′ in
+    let c = sym (take-event m v (nodeOf s e q) (codeAt e q) n k) ∙ t ∙ take-event m′ v′ (nodeOf s e q′) (codeAt e q′) n k′ in
     let u = o .unique q q′ m m′ a a′ (head-eq-of-cons-eq c) in
     let same-place = u .0 in
     let same-marks = u .1 in
     let same-rest = g q v v′ r (subst⁻¹ (λ (p : Place e). Rest s e p v′) same-place r′) (tail-eq-of-cons-eq c) in
-    upTo-marks m v (nodeOf s e q) (codeOf e q) n k
+    upTo-marks m v (nodeOf s e q) (codeAt e q) n k
     ∙ (λ j. same-marks j ++ (itemOf s e (same-place j) ∷ same-rest j))
-    ∙ sym (upTo-marks m′ v′ (nodeOf s e q′) (codeOf e q′) n k′)
+    ∙ sym (upTo-marks m′ v′ (nodeOf s e q′) (codeAt e q′) n k′)
 
 -- a way from a place is a step
 goes-next : (s : ℕ) (e : Expr) (p : Place e) (y : List Item) → Goes s e p y → StopsOrGoes s e (closes s e p) (Step s e p) y

@@ -12,7 +12,7 @@ use Rattle.meaning.specs.Expr.{Expr, empty, event, choice, sequence, rep
 use Rattle.meaning.specs.Lists.{nil, One, one, left, right, Cat, cat, Power, none, Times, times}
 use Rattle.meaning.specs.Normal.{nullable, low}
 use Rattle.meaning.specs.Reading.{Item, place, opening, closing, Block, block, Reading, codes, upTo}
-use Rattle.meaning.specs.theory.Places.{Place, nodeOf, codeOf, itemOf, Sound, CanStart, opens, CanEnd, closes, Step, Blocks, blocks, Rest, Before}
+use Rattle.meaning.specs.theory.Places.{Place, nodeOf, codeAt, itemOf, Sound, CanStart, opens, CanEnd, closes, Step, Blocks, blocks, Rest, Before}
 use Rattle.meaning.proofs.general.Facts.{power-append, power-snoc, some-power, cat-append, append-cat, within-pad, low-within}
 use Rattle.meaning.proofs.expressions.Items.{events-append, events-upTo, upTo-append, upTo-first}
 use Rattle.meaning.proofs.places.Marks.{opens-no-event, closes-no-event, step-no-event}
@@ -217,7 +217,7 @@ cut-at x n p u y k b t a w = record { reached = p; after = y; sound = k; before 
 cut-first : (s : ℕ) (e : Expr) → Bounded e → (x : List Item) → Begun s e x → 1 ≤ length (codes x) → CutAfter s e x 1
 cut-first s e h x (nothing n) k = absurd (omega arith)
 cut-first s e h x (first q y c t) k =
-    let a = upTo-first (opens s e q) y (nodeOf s e q) (codeOf e q) (opens-no-event s e q) in
+    let a = upTo-first (opens s e q) y (nodeOf s e q) (codeAt e q) (opens-no-event s e q) in
     let u = opens s e q ++ (itemOf s e q ∷ []) in
     cut-at x 1 q u y (start-sound e h q c) (before-start s e h q c) t a (sym (append-assoc (opens s e q) (itemOf s e q ∷ []) y))
 
@@ -231,7 +231,7 @@ cut-next s e h x n p u y k b c w (ends d) l =
     absurd (omega arith)
 cut-next s e h x n p u y k b c w (steps q m z t d) l =
     let i = itemOf s e q in
-    let marks = upTo-first m z (nodeOf s e q) (codeOf e q) (step-no-event s e p q m t) in
+    let marks = upTo-first m z (nodeOf s e q) (codeAt e q) (step-no-event s e p q m t) in
     let past = upTo-append u (m ++ (i ∷ z)) 0 (suc (suc n)) (omega arith) in
     let a = ap (λ (v : List Item). upTo v (suc (suc n))) w ∙ past ∙ ap {B = List Item} (λ v. u ++ v) marks in
     let b′ = before-step s e h p q m u k b t in

@@ -9,7 +9,7 @@ use lib.ListN.{length}
 use Rattle.meaning.specs.Expr.{Expr, empty, event, choice, sequence, repeat, size, Part, Bounded}
 use Rattle.meaning.specs.Reading.{Item, place, codes, upTo, Reading}
 use Rattle.meaning.specs.Loose.{DirectlyFollows, follows}
-use Rattle.meaning.specs.theory.Places.{Place, nodeOf, codeOf, itemOf, Sound, Step}
+use Rattle.meaning.specs.theory.Places.{Place, nodeOf, codeAt, itemOf, Sound, Step}
 use Rattle.meaning.proofs.places.Before.{some-before, some-rest, before-rest-reading, CutAfter, reading-cut, before-ends}
 use Rattle.meaning.proofs.general.Facts.{append-cut, last-same}
 use Rattle.meaning.proofs.expressions.Items.{codes-event, events-append, upTo-event, upTo-first}
@@ -17,7 +17,7 @@ use Rattle.meaning.proofs.places.Marks.{closes-no-event, step-no-event}
 use Rattle.meaning.proofs.places.Steps.{Goes, ends, steps, rest-goes, goes-rest, step-sound}
 
 -- the node of a place is an event node, with its code
-pub place-part : (s : ℕ) (e : Expr) (p : Place e) → Part s e (nodeOf s e p) (event (codeOf e p))
+pub place-part : (s : ℕ) (e : Expr) (p : Place e) → Part s e (nodeOf s e p) (event (codeAt e p))
 place-part s empty p = absurd p
 place-part s (event c) p = (refl, refl)
 place-part s (choice l r) (inl p) = inl (place-part s l p)
@@ -56,7 +56,7 @@ pub record StepBetween (e : Expr) (i j code : ℕ) : Type 0 where
   pub step : Step 0 e from to marks
   pub from-node : nodeOf 0 e from ≡ i
   pub to-node : nodeOf 0 e to ≡ j
-  pub to-code : codeOf e to ≡ code
+  pub to-code : codeAt e to ≡ code
 
 -- where marks and an event come after a place, a step leads to that event
 goes-stepped : (e : Expr) (p : Place e) (y : List Item) → Sound e p → Goes 0 e p y → (m v : List Item) (j c : ℕ) → codes m ≡ [] → y ≡ m ++ (place j c ∷ v)
@@ -67,7 +67,7 @@ goes-stepped e p y k (ends d) m v j c n h =
     let same = ap {B = ℕ} (λ (x : List Item). length (codes x)) h in
     absurd (omega arith)
 goes-stepped e p y k (steps q w z t r) m v j c n h =
-    let one = upTo-first w z (nodeOf 0 e q) (codeOf e q) (step-no-event 0 e p q w t) in
+    let one = upTo-first w z (nodeOf 0 e q) (codeAt e q) (step-no-event 0 e p q w t) in
     let other = upTo-first m v j c n in
     let item = last-same w m (itemOf 0 e q) (place j c) (sym one ∙ ap (λ (x : List Item). upTo x 1) h ∙ other) in
     record {
@@ -106,14 +106,14 @@ follows-stepped e h i j c (follows u m v b n r) =
 
 -- a step stands in some reading
 step-follows : (e : Expr) → Bounded e → (p t : Place e) (m : List Item) → Sound e p → Step 0 e p t m
-    → DirectlyFollows e (nodeOf 0 e p) (nodeOf 0 e t) (codeOf e t)
+    → DirectlyFollows e (nodeOf 0 e p) (nodeOf 0 e t) (codeAt e t)
 step-follows e h p t m k w =
     let u = some-before 0 e h p k in
     let y = some-rest 0 e h t (step-sound 0 e h p t m k w) in
     let x = before-ends 0 e p (u .0) (u .1) in
     let z = m ++ (itemOf 0 e t ∷ y .0) in
     let all = before-rest-reading 0 e p (u .0) z (u .1) (goes-rest 0 e h p k z (steps t m (y .0) w (y .1))) in
-    follows (x .0) m (y .0) (codeOf e p) (step-no-event 0 e p t m w)
+    follows (x .0) m (y .0) (codeAt e p) (step-no-event 0 e p t m w)
     (subst (Reading 0 e) (append-cut (u .0) (x .0) (itemOf 0 e p ∷ []) z (x .1)) all)
 
 -- so to follow directly is to be a step away

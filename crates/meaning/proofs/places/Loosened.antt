@@ -11,7 +11,7 @@ use Rattle.meaning.specs.Normal.{isZero, nullable, low}
 use Rattle.meaning.specs.Reading.{Item}
 use Rattle.meaning.specs.Loose.{many, atMostOne, loosen, DirectlyFollows}
 use Rattle.meaning.specs.Promises.{Lights}
-use Rattle.meaning.specs.theory.Places.{Place, nodeOf, codeOf, Step}
+use Rattle.meaning.specs.theory.Places.{Place, nodeOf, codeAt, Step}
 use Rattle.meaning.specs.theory.Ways.{Entry, enters, apart, entry, Way, turns, ends, stuck, orElse, mapEntry, another, way, mapWay, Turned, climb}
 use Rattle.meaning.specs.theory.Near.{there, near, Near}
 use Rattle.meaning.proofs.general.Facts.{iff-sum, so-leb, not-leb, low-le}
@@ -282,10 +282,10 @@ stepped-iff-near {e} {d} x p j c = (
   ),
   λ f.
       let i = nodeOf 0 e p in
-      let t = part-place 0 d (loose-bounded x) i (codeOf e p) (loose-part x 0 0 refl i (codeOf e p) .0 (place-part 0 e p)) in
+      let t = part-place 0 d (loose-bounded x) i (codeAt e p) (loose-part x 0 0 refl i (codeAt e p) .0 (place-part 0 e p)) in
       let turn = turned-to (way 0 d (t .0) j) (loose-way x 0 0 refl p (t .0) (t .2) j .1 .0 (f .0)) in
       let k = way-step 0 d (t .0) j (turn .0) (turn .1) in
-      let code-there = subst (λ (n : ℕ). Part 0 d n (event (codeOf d (turn .0)))) (k .2) (place-part 0 d (turn .0)) in
+      let code-there = subst (λ (n : ℕ). Part 0 d n (event (codeAt d (turn .0)))) (k .2) (place-part 0 d (turn .0)) in
       record {
         from = t .0;
         to = turn .0;
@@ -294,7 +294,7 @@ stepped-iff-near {e} {d} x p j c = (
         step = k .1;
         from-node = t .2;
         to-node = k .2;
-        to-code = code-of-node d j (codeOf d (turn .0)) c code-there (loose-part x 0 0 refl j c .0 (f .1));
+        to-code = code-of-node d j (codeAt d (turn .0)) c code-there (loose-part x 0 0 refl j c .0 (f .1));
       },
 )
 

@@ -6,7 +6,7 @@ use Prim.Native.Nat.{ℕ, suc}
 use lib.ListN.{length}
 use Rattle.meaning.specs.Expr.{Expr, Bounded}
 use Rattle.meaning.specs.Reading.{Item, place, Reading, codes, upTo}
-use Rattle.meaning.specs.theory.Places.{Place, nodeOf, codeOf, itemOf, Sound, CanStart, opens, closes, Step, Rest}
+use Rattle.meaning.specs.theory.Places.{Place, nodeOf, codeAt, itemOf, Sound, CanStart, opens, closes, Step, Rest}
 use Rattle.meaning.specs.theory.Spots.{Spot, start, behind, CanStop, Safe}
 use Rattle.meaning.proofs.expressions.Items.{codes-append, upTo-zero, upTo-marks}
 use Rattle.meaning.proofs.places.Marks.{opens-no-event, closes-no-event, step-no-event}
@@ -95,7 +95,7 @@ onto e v w = (w .0, v .1 ++ (itemOf 0 e (v .0) ∷ w .1))
 abbrev pub Arrives : (e : Expr) → Spot e → List ℕ → Arrival e → Type 0
 Arrives e k [] w = w ≡ (k, [])
 Arrives e k (c ∷ u) w =
-    (v : Move e) × (CanMove e k v × (codeOf e (v .0) ≡ c)) × ((x : Arrival e) × Arrives e (behind (v .0)) u x × (w ≡ onto e v x))
+    (v : Move e) × (CanMove e k v × (codeAt e (v .0) ≡ c)) × ((x : Arrival e) × Arrives e (behind (v .0)) u x × (w ≡ onto e v x))
 
 -- the codes of marks, an event and further items
 codes-move : (m y : List Item) (i c : ℕ) → codes m ≡ [] → codes (m ++ (place i c ∷ y)) ≡ c ∷ codes y
@@ -110,7 +110,7 @@ arrives-codes e k (c ∷ u) w g =
     let code = g .1 .1 in
     let further = arrives-codes e (behind (v .0)) u x (g .2 .1) in
     ap (λ (t : Arrival e). codes (t .1)) (g .2 .2)
-    ∙ codes-move (v .1) (x .1) (nodeOf 0 e (v .0)) (codeOf e (v .0)) (move-no-event e k v (g .1 .0))
+    ∙ codes-move (v .1) (x .1) (nodeOf 0 e (v .0)) (codeAt e (v .0)) (move-no-event e k v (g .1 .0))
     ∙ λ i. code i ∷ further i
 
 -- the way ends with the run's last event
@@ -121,7 +121,7 @@ arrives-upTo e k (c ∷ u) w g z =
     let x = g .2 .0 in
     let i = itemOf 0 e (v .0) in
     let further = arrives-upTo e (behind (v .0)) u x (g .2 .1) z in
-    let cut = upTo-marks (v .1) (x .1 ++ z) (nodeOf 0 e (v .0)) (codeOf e (v .0)) (length u) (move-no-event e k v (g .1 .0)) in
+    let cut = upTo-marks (v .1) (x .1 ++ z) (nodeOf 0 e (v .0)) (codeAt e (v .0)) (length u) (move-no-event e k v (g .1 .0)) in
     let whole = ap (λ (t : List Item). upTo t (suc (length u))) (append-assoc (v .1) (i ∷ x .1) z) in
     subst
     (λ (t : Arrival e). upTo (t .1 ++ z) (suc (length u)) ≡ t .1)
@@ -155,7 +155,7 @@ pub record CutByRun (e : Expr) (k : Spot e) (u r : List ℕ) (y : List Item) : T
 
 -- a cut one event further back
 cut-back : {e : Expr} {k : Spot e} {u r : List ℕ} {y : List Item} (v : Move e) → CanMove e k v → CutByRun e (behind (v .0)) u r y
-    → CutByRun e k (codeOf e (v .0) ∷ u) r (v .1 ++ (itemOf 0 e (v .0) ∷ y))
+    → CutByRun e k (codeAt e (v .0) ∷ u) r (v .1 ++ (itemOf 0 e (v .0) ∷ y))
 cut-back {e} {k} v n t =
     record {
       to = onto e v (t .to);
@@ -175,7 +175,7 @@ cut e h k (c ∷ u) r y o a = go (λ q. cut e h (behind q) u r) y a (completes-s
         → (x : List Item) → codes x ≡ c ∷ (u ++ r) → Split e k x → CutByRun e k (c ∷ u) r x
     go on x b (stops d) = absurd (cons≢nil (sym b ∙ last-no-event e k))
     go on x b (moves v z n t) =
-        let d = sym (codes-move (v .1) z (nodeOf 0 e (v .0)) (codeOf e (v .0)) (move-no-event e k v n)) ∙ b in
+        let d = sym (codes-move (v .1) z (nodeOf 0 e (v .0)) (codeAt e (v .0)) (move-no-event e k v n)) ∙ b in
         subst (λ j. CutByRun e k (j ∷ u) r x) (head-eq-of-cons-eq d) (cut-back v n (on (v .0) z t (tail-eq-of-cons-eq d)))
 
 -- what completes a reading without a further event is the closings
@@ -185,4 +185,4 @@ completes-last e h k z o c = go z c (completes-split e h k z o)
     go : (x : List Item) → codes x ≡ [] → Split e k x → CanStop e k × (x ≡ last e k)
     go x b (stops d) = (d, refl)
     go x b (moves v y n t) =
-        absurd (cons≢nil (sym (codes-move (v .1) y (nodeOf 0 e (v .0)) (codeOf e (v .0)) (move-no-event e k v n)) ∙ b))
+        absurd (cons≢nil (sym (codes-move (v .1) y (nodeOf 0 e (v .0)) (codeAt e (v .0)) (move-no-event e k v n)) ∙ b))

@@ -10,7 +10,7 @@ use Rattle.meaning.specs.Expr.{Expr, empty, event, choice, sequence, rep
 use Rattle.meaning.specs.Lists.{nil, One, one, left, right, Cat, cat, none, more, times}
 use Rattle.meaning.specs.Normal.{nullable, low}
 use Rattle.meaning.specs.Reading.{Item, opening, closing, codes, Block, block, Reading}
-use Rattle.meaning.specs.theory.Places.{Place, nodeOf, codeOf, itemOf, Sound, CanStart, opens, CanEnd, closes, Step, Blocks, blocks, Rest}
+use Rattle.meaning.specs.theory.Places.{Place, nodeOf, codeAt, itemOf, Sound, CanStart, opens, CanEnd, closes, Step, Blocks, blocks, Rest}
 use Rattle.meaning.proofs.general.Facts.{so-or, low-zero, zero-low, within-le, append-cut, cat-at}
 use Rattle.meaning.proofs.expressions.Items.{codes-event}
 
@@ -88,7 +88,7 @@ module _ (s : ℕ) (b : Expr) (lower : ℕ) (upper : Upper) where
   next-further reading k x (another q y c (cat u v a (cat w z one (blocks j lo up d)))) =
       let i = opens s b q ++ (itemOf s b q ∷ u) in
       let whole : Block (Reading s b) (s + size b) (opening (s + size b) ∷ (i ++ (closing (s + size b) ∷ []))) =
-      block i (codes-event (opens s b q) (nodeOf s b q) (codeOf b q) u) (reading i (first q u c a)) in
+      block i (codes-event (opens s b q) (nodeOf s b q) (codeAt b q) u) (reading i (first q u c a)) in
       let all : Further k (opening (s + size b) ∷ (i ++ (closing (s + size b) ∷ []) ++ z)) =
       blocks (suc j) (omega arith) (within-le _ _ upper (omega arith) up) (more j _ z whole d) in
       simp append-assoc at all

@@ -12,7 +12,7 @@ use Rattle.meaning.specs.Promises.{Lights, Prompts}
 use Rattle.meaning.specs.State.{State, Reaches, ReachesBytes, padded, reached, stateBytes, stateOf}
 use Rattle.meaning.specs.Strong.{StronglyDeterministic}
 use Rattle.meaning.specs.Word.{Begins}
-use Rattle.meaning.specs.theory.Places.{nodeOf, codeOf, itemOf}
+use Rattle.meaning.specs.theory.Places.{nodeOf, codeAt, itemOf}
 use Rattle.meaning.specs.theory.Runs.{spotState}
 use Rattle.meaning.specs.theory.Spots.{Spot, start, behind}
 use Rattle.meaning.proofs.places.Directly.{place-part}
@@ -45,12 +45,12 @@ arrives-node e k (c ∷ u) w g =
     (reached-append (v .1) (itemOf 0 e (v .0) ∷ x .1) (spotNode e k) ∙ arrives-node e (behind (v .0)) u x (g .2 .1))
 
 -- the code of every move from a spot is lit there
-move-lit : (e : Expr) → Bounded e → (k : Spot e) (v : Move e) → CanMove e k v → Lights e (spotNode e k) (codeOf e (v .0))
-move-lit e h start v n = first-iff-worded e h (codeOf e (v .0)) .0 (start-first e (v .0) (n .0))
+move-lit : (e : Expr) → Bounded e → (k : Spot e) (v : Move e) → CanMove e k v → Lights e (spotNode e k) (codeAt e (v .0))
+move-lit e h start v n = first-iff-worded e h (codeAt e (v .0)) .0 (start-first e (v .0) (n .0))
 move-lit e h (behind p) v n =
     let t = v .0 in
-    subst (λ (i : ℕ). Lights e i (codeOf e t)) (sym (add-one (nodeOf 0 e p)))
-    (lights-iff-near e h p (codeOf e t) .1 (nodeOf 0 e t, step-near 0 e p t (v .1) n, place-part 0 e t))
+    subst (λ (i : ℕ). Lights e i (codeAt e t)) (sym (add-one (nodeOf 0 e p)))
+    (lights-iff-near e h p (codeAt e t) .1 (nodeOf 0 e t, step-near 0 e p t (v .1) n, place-part 0 e t))
 
 -- the first two bytes of a state hold its node
 state-node : (f : List ℕ) (e : Expr) → Admitted f e → (u : List ℕ) (z : State) → Reaches e u z → twoAt (stateBytes z) 0 ≡ z .node

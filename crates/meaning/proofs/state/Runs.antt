@@ -12,7 +12,7 @@ use Rattle.meaning.specs.Word.{Word, Begins}
 use Rattle.meaning.specs.Reading.{Item, codes, upTo}
 use Rattle.meaning.specs.Strong.{StronglyDeterministic}
 use Rattle.meaning.specs.State.{State, stateOf, Reaches, reaches}
-use Rattle.meaning.specs.theory.Places.{Place, nodeOf, codeOf, itemOf, Sound, opens, Before}
+use Rattle.meaning.specs.theory.Places.{Place, nodeOf, codeAt, itemOf, Sound, opens, Before}
 use Rattle.meaning.specs.theory.Counts.{placeState}
 use Rattle.meaning.specs.theory.Spots.{Spot, start, behind, CanStop, Safe}
 use Rattle.meaning.specs.theory.Ways.{way}
@@ -42,9 +42,9 @@ move-leads e start v n = (v .0, entry-iff 0 e (nodeOf 0 e (v .0)) (v .0) .1 (n .
 move-leads e (behind p) v n = turned-to (way 0 e p (nodeOf 0 e (v .0))) (step-turned 0 e p (v .0) (v .1) n)
 
 -- a way to an event node leads to a place with its code
-pub leads-code : (e : Expr) (k : Spot e) (q c : ℕ) (t : Place e) → Part 0 e q (event c) → LeadsTo e k q t → codeOf e t ≡ c
+pub leads-code : (e : Expr) (k : Spot e) (q c : ℕ) (t : Place e) → Part 0 e q (event c) → LeadsTo e k q t → codeAt e t ≡ c
 leads-code e k q c t w l =
-    code-of-node e q (codeOf e t) c (subst (λ (i : ℕ). Part 0 e i (event (codeOf e t))) (leads-move e k q t l .2) (place-part 0 e t)) w
+    code-of-node e q (codeAt e t) c (subst (λ (i : ℕ). Part 0 e i (event (codeAt e t))) (leads-move e k q t l .2) (place-part 0 e t)) w
 
 -- from a safe spot a way leads to a sound place
 pub leads-sound : (e : Expr) → Bounded e → (k : Spot e) → Safe e k → (q : ℕ) (t : Place e) → LeadsTo e k q t → Sound e t
@@ -163,9 +163,9 @@ module _ (e : Expr) (h : Bounded e) (d : StronglyDeterministic e) (w : List ℕ)
       never (nodeOf 0 e (v .0)) (subst (λ (i : ℕ). Part 0 e (nodeOf 0 e (v .0)) (event i)) (step .1 .1) (place-part 0 e (v .0))) (lead .0) (lead .1)
 
   -- with the event of a way the run stands behind it
-  pub run-next : (q : ℕ) (t : Place e) → LeadsTo e k q t → RunAt e (w ++ (codeOf e t ∷ [])) (behind t)
+  pub run-next : (q : ℕ) (t : Place e) → LeadsTo e k q t → RunAt e (w ++ (codeAt e t ∷ [])) (behind t)
   run-next q t l =
-      let c = codeOf e t in
+      let c = codeAt e t in
       let s = at .safe in
       let sound = leads-sound e h k s q t l in
       let move = leads-move e k q t l in

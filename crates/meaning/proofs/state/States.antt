@@ -13,7 +13,7 @@ use Rattle.meaning.specs.Word.{Begins}
 use Rattle.meaning.specs.Reading.{Item, place, codes, upTo, Reading}
 use Rattle.meaning.specs.Strong.{StronglyDeterministic}
 use Rattle.meaning.specs.State.{stop, State, stateOf, Reaches, reaches}
-use Rattle.meaning.specs.theory.Places.{Place, nodeOf, codeOf, Sound, Rest, Before}
+use Rattle.meaning.specs.theory.Places.{Place, nodeOf, codeAt, Sound, Rest, Before}
 use Rattle.meaning.specs.theory.Counts.{zeros, placeCounts, placeState, startState, most}
 use Rattle.meaning.proofs.expressions.Items.{codes-append, codes-upTo, upTo-zero, upTo-append}
 use Rattle.meaning.proofs.expressions.WordReading.{begins-iff-reading}
@@ -76,7 +76,7 @@ parted-reading e a y (at-place p b t k c r) = before-rest-reading 0 e p a y c r
 -- the first part ends with an event, or is empty
 pub parted-stopped : (e : Expr) (a y : List Item) → ReadingParted e a y → Stopped a
 parted-stopped e a y (at-start t r) = nowhere
-parted-stopped e a y (at-place p b t k c r) = let x = before-ends 0 e p a c in subst⁻¹ Stopped (x .1) (ended (x .0) (nodeOf 0 e p) (codeOf e p))
+parted-stopped e a y (at-place p b t k c r) = let x = before-ends 0 e p a c in subst⁻¹ Stopped (x .1) (ended (x .0) (nodeOf 0 e p) (codeAt e p))
 
 -- a reading can be parted after each event
 pub reading-parted : (e : Expr) → Bounded e → (x : List Item) (n : ℕ) → Reading 0 e x → n ≤ length (codes x)

@@ -28,18 +28,18 @@ nodeOf s (sequence l r) (inr p) = nodeOf (s + size l) r p
 nodeOf s (repeat b lower upper) p = nodeOf s b (p .0)
 
 -- its code
-abbrev pub codeOf : (e : Expr) → Place e → ℕ
-codeOf empty p = elim p [ ]
-codeOf (event c) p = c
-codeOf (choice l r) (inl p) = codeOf l p
-codeOf (choice l r) (inr p) = codeOf r p
-codeOf (sequence l r) (inl p) = codeOf l p
-codeOf (sequence l r) (inr p) = codeOf r p
-codeOf (repeat b lower upper) p = codeOf b (p .0)
+abbrev pub codeAt : (e : Expr) → Place e → ℕ
+codeAt empty p = elim p [ ]
+codeAt (event c) p = c
+codeAt (choice l r) (inl p) = codeAt l p
+codeAt (choice l r) (inr p) = codeAt r p
+codeAt (sequence l r) (inl p) = codeAt l p
+codeAt (sequence l r) (inr p) = codeAt r p
+codeAt (repeat b lower upper) p = codeAt b (p .0)
 
 -- its item
 abbrev pub itemOf : ℕ → (e : Expr) → Place e → Item
-itemOf s e p = place (nodeOf s e p) (codeOf e p)
+itemOf s e p = place (nodeOf s e p) (codeAt e p)
 
 -- no repeat has begun more blocks than its upper bound allows
 abbrev pub Sound : (e : Expr) → Place e → Type 0

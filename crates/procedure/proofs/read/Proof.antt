@@ -11,7 +11,7 @@ use Rattle.procedure.specs.Entry.{held}
 use Rattle.procedure.specs.Listing.{TellsStarts}
 use Rattle.procedure.specs.Repeats.{Counts}
 use Rattle.procedure.proofs.Deciding.{fails, holds}
-use Rattle.procedure.proofs.Openings.{filled, off-table, out-of-order, tested-whole, too-many}
+use Rattle.procedure.proofs.Openings.{OnePart, filled, off-table, out-of-order, tested-whole, too-many}
 use Rattle.procedure.proofs.Orders.{starts-ordered}
 use Rattle.procedure.proofs.read.Statement.{statement}
 use Rattle.procedure.proofs.read.Tie as tie
@@ -54,6 +54,18 @@ filled-at m = m .before .before .before .before .before .before .before
 
 begun : (m : tie.Else5) → TellsStarts (held (entries (filled-at m))) (m .before .lowest-out-of-order .last .1 .0) (n (filled-at m))
 begun m = m .before .lowest-out-of-order .ensures .1 (m .if5 .left)
+
+-- and the nodes are one part
+one-part : (m : tie.Else5) → OnePart (file (filled-at m)) (entries (filled-at m)) (n (filled-at m))
+one-part m =
+    let f = filled-at m in
+    record {
+      framed = framed f;
+      counted = f .before .before .count-of .ensures .0;
+      tied = f .fill .ensures;
+      table = kept (m .before .before .before .before);
+      part = tested-whole (m .before .lowest-out-of-order .ensures .0) (m .if5 .left);
+    }
 
 sized-requires : tie.Need-sized-requires
 sized-requires c κs = search needs
@@ -134,17 +146,7 @@ returns-6 c =
     let l = c .before .before .before in
     let o = l .before .before .before .before in
     let m = filled-at o in
-    too-many
-    (file m)
-    (entries m)
-    (n m)
-    (framed m)
-    (m .before .before .count-of .ensures .0)
-    (m .fill .ensures)
-    (kept (o .before .before .before .before))
-    (tested-whole (o .before .lowest-out-of-order .ensures .0) (o .if5 .left))
-    _
-    (subst (Counts (held (entries m)) _ _ (n m)) (c .before .over .given .1) (l .list-repeats .ensures))
+    too-many (one-part o) _ (subst (Counts (held (entries m)) _ _ (n m)) (c .before .over .given .1) (l .list-repeats .ensures))
 
 returns-7 : tie.Need-returns-7
 returns-7 c =
@@ -152,23 +154,7 @@ returns-7 c =
     let o = l .before .before .before .before in
     let m = filled-at o in
     let counts = subst (Counts (held (entries m)) _ _ (n m)) (c .before .count .given .1) (l .list-repeats .ensures) in
-    filled
-    (file m)
-    (entries m)
-    (n m)
-    (framed m)
-    (m .before .before .count-of .ensures .0)
-    (m .fill .ensures)
-    (kept (o .before .before .before .before))
-    (tested-whole (o .before .lowest-out-of-order .ensures .0) (o .if5 .left))
-    _
-    _
-    _
-    _
-    (begun o)
-    (counts .0)
-    (counts .1)
-    (counts .2)
+    filled (one-part o) _ _ _ _ (begun o) (counts .0) (counts .1) (counts .2)
 
 pub read-spec : {M : Type 1} → statement M
 read-spec =

@@ -1,4 +1,4 @@
-// A refusal and a verdict as the request's numbers. Every case is named, so that a new one has to be told.
+// The rows of the request's tables: a refusal and a verdict as its numbers. Every case is named, so that a new one has to be told.
 ghost use mathlib.Core.Path.{_≡_};
 ghost use Rattle.meaning.specs.Numbers.{row, verdictNumber};
 use meaning::Refusal;
