@@ -42,10 +42,17 @@ def pair(old, new, *keys):
     return Moves(new, changed, old, stayed)
 
 
-def pair_named(old, new):
-    """Of several with one name the same text counts first, then the same place."""
-    keys = (lambda i: (i.name, i.place, i.text), lambda i: (i.name, i.text), lambda i: (i.name, i.place), lambda i: i.name)
+def pair_same(old, new):
+    """Of several with one name and text the same place counts first."""
+    keys = (lambda i: (i.name, i.place, i.text), lambda i: (i.name, i.text))
     return pair(old, new, *((key, key) for key in keys))
+
+
+def pair_named(old, new):
+    """The same text counts before the same name, and there again the same place."""
+    same = pair_same(old, new)
+    keys = (lambda i: (i.name, i.place), lambda i: i.name)
+    return pair(same.dropped, same.added, *((key, key) for key in keys))._replace(stayed=same.stayed)
 
 
 def pair_files(old, new):
@@ -119,10 +126,10 @@ def apart(items, others):
 
 def definitions_section(old, new, old_proofs, new_proofs):
     """The definitions; what came from the proofs as it was is not added, and what went there not dropped."""
-    moves = pair_named(old, new)
-    came, added = apart(moves.added, old_proofs)
-    went, dropped = apart(moves.dropped, new_proofs)
-    moves = moves._replace(added=added, dropped=dropped)
+    same = pair_same(old, new)
+    came, added = apart(same.added, old_proofs)
+    went, dropped = apart(same.dropped, new_proofs)
+    moves = pair_named(dropped, added)._replace(stayed=same.stayed)
     further = "".join(f", {len(items)} moved {way} proofs" for items, way in ((came, "from"), (went, "to")) if items)
     return section("Definitions", tally(moves, further), bullets(
         *named(moves, definition_name), ("moved from proofs", [definition_name(item) for item in came]),

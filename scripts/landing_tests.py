@@ -134,6 +134,12 @@ class Note(unittest.TestCase):
             "1 of them in another file.\n\n- added: `b/B.k`\n- changed: `a/A.g` → `b/B.g`\n- dropped: `a/A.h`\n"
             "- moved from proofs: `b/B.m`\n- moved to proofs: `a/A.gone`"))
 
+    def test_a_definition_from_the_proofs_is_no_change_of_its_namesake(self):
+        old, new = [Item("f", "a/A", "1")], [Item("f", "b/B", "2")]
+        self.assertEqual(note.definitions_section(old, new, [Item("f", "b/P", "2")], []), (
+            "## Definitions\n\n0 added, 0 changed, 1 dropped, 1 moved from proofs; 0 stayed.\n\n"
+            "- dropped: `a/A.f`\n- moved from proofs: `b/B.f`"))
+
     def test_public_promises(self):
         call, own, said = Item("seq", "s", 'extern "C" fn seq()'), Item("own", "s", "fn own()"), Item("P", "m/Promises", "1")
         old = [call, own], [said, Item("D", "m/Other", "1")]
