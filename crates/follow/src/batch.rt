@@ -8,6 +8,7 @@ use meaning::Refusal;
 use plan::fill;
 use states::bytes;
 use states::reached;
+use states::reached::Read;
 
 // The answer for the n nodes of an admitted file, of which r are repeats.
 pub fn go_on(
@@ -23,19 +24,26 @@ pub fn go_on(
     requires { ⌜ ((e : Expr) × Tables (now nodes) (now starts) (now nulls) (now repeats) n r e) ⌝ }
     ensures { λ a. ⌜ ((e : Expr) → Tables (now (nodes .entry)) (now (starts .entry)) (now (nulls .entry)) (now (repeats .entry)) n r e → Went e (now (bytes .entry)) (now (events .entry)) a (now (bytes .exit))) ⌝ }
 {
+    let mut counts = [0u16; 32];
+    let Read::Reached(node) = reached::read_state(
+        nodes,
+        starts,
+        nulls,
+        repeats,
+        n,
+        r,
+        bytes,
+        &mut counts,
+    ) else {
+        return FollowAnswer::Refused(Refusal::Unreached);
+    };
     let mut plan = [0u64; 512];
     fill::fill_plan(nodes, nulls, &mut plan, n, r);
-    let mut counts = [0u16; 32];
-    match reached::read_state(nodes, starts, nulls, repeats, n, r, bytes, &mut counts) {
-        reached::Read::Unreached => FollowAnswer::Refused(Refusal::Unreached),
-        reached::Read::Reached(node) => {
-            let ran = run::run(nodes, starts, nulls, &plan, n, node, &mut counts, events);
-            let at = ran.node;
-            let taken = ran.taken;
-            let given = events.len();
-            let stands = run::verdict(nodes, starts, nulls, &plan, n, at, &counts, taken, given);
-            bytes::encode(at, &counts, bytes);
-            FollowAnswer::Followed(taken as u64, stands)
-        }
-    }
+    let ran = run::run(nodes, starts, nulls, &plan, n, node, &mut counts, events);
+    let at = ran.node;
+    let taken = ran.taken;
+    let given = events.len();
+    let stands = run::verdict(nodes, starts, nulls, &plan, n, at, &counts, taken, given);
+    bytes::encode(at, &counts, bytes);
+    FollowAnswer::Followed(taken as u64, stands)
 }

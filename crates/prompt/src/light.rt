@@ -17,6 +17,7 @@ use meaning::Refusal;
 use plan::fill;
 use procedure::entry;
 use states::reached;
+use states::reached::Read;
 
 // The code of node q, where that is an event that can directly follow event node p; and else no code.
 fn code_near(
@@ -108,13 +109,20 @@ pub fn light(
     requires { ⌜ ((e : Expr) × Tables (now nodes) (now starts) (now nulls) (now repeats) n r e) ⌝ }
     ensures { λ a. ⌜ ((f : List ℕ) (e : Expr) → Admitted f e → Tables (now (nodes .entry)) (now (starts .entry)) (now (nulls .entry)) (now (repeats .entry)) n r e → Prompts f (now (bytes .entry)) a) ⌝ }
 {
+    let mut counts = [0u16; 32];
+    let Read::Reached(node) = reached::read_state(
+        nodes,
+        starts,
+        nulls,
+        repeats,
+        n,
+        r,
+        bytes,
+        &mut counts,
+    ) else {
+        return PromptAnswer::Refused(Refusal::Unreached);
+    };
     let mut plan = [0u64; 512];
     fill::fill_plan(nodes, nulls, &mut plan, n, r);
-    let mut counts = [0u16; 32];
-    match reached::read_state(nodes, starts, nulls, repeats, n, r, bytes, &mut counts) {
-        reached::Read::Unreached => PromptAnswer::Refused(Refusal::Unreached),
-        reached::Read::Reached(node) => {
-            PromptAnswer::Lit(lit(nodes, starts, nulls, &plan, n, node))
-        }
-    }
+    PromptAnswer::Lit(lit(nodes, starts, nulls, &plan, n, node))
 }

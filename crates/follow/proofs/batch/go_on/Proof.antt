@@ -21,7 +21,7 @@ read-state-requires c κs = search needs
 -- ---- what is known once the state is read
 
 abbrev begun : tie.After-read-state → tie.Start
-begun r = r .before .before .before .before .before .before .before
+begun r = r .before .before .before .before .before
 
 abbrev nodes : tie.After-read-state → List ℕ
 nodes r = begun r .args .nodes .now
@@ -32,9 +32,6 @@ bytes r = begun r .args .bytes .now
 abbrev events : tie.After-read-state → List ℕ
 events r = begun r .args .events .now
 
-abbrev plan : tie.After-read-state → List ℕ
-plan r = r .before .before .before .fill-plan .last .1 .1 .0
-
 abbrev counts : tie.After-read-state → List ℕ
 counts r = r .read-state .last .1 .1 .1 .1 .1 .1 .1 .0
 
@@ -42,10 +39,6 @@ counts r = r .read-state .last .1 .1 .1 .1 .1 .1 .1 .0
 abbrev Has : tie.After-read-state → Expr → Type 0
 Has r e =
     Tables (nodes r) (begun r .args .starts .now) (begun r .args .nulls .now) (begun r .args .repeats .now) (begun r .args .n) (begun r .args .r) e
-
-planned : (r : tie.After-read-state) (e : Expr) → Has r e
-    → Plans (nodes r) (begun r .args .starts .now) (begun r .args .nulls .now) (plan r) (begun r .args .n) e
-planned r e w = r .before .before .before .fill-plan .ensures _ _ e w
 
 told : (r : tie.After-read-state) (e : Expr) → Has r e → ReadOf e (bytes r) (counts r) (r .read-state .result)
 told r e w = r .read-state .ensures e w
@@ -55,6 +48,18 @@ enum-told c = search needs
 
 enum-known-node : tie.Need-enum-known-node
 enum-known-node c = search needs
+
+-- ---- and once the plan is filled
+
+abbrev node : tie.After-fill-plan → tie.After-node
+node m = m .before .before .before
+
+abbrev read : tie.After-fill-plan → tie.After-read-state
+read m = node m .before .before
+
+planned : (m : tie.After-fill-plan) (e : Expr) → Has (read m) e
+    → Plans (nodes (read m)) (begun (read m) .args .starts .now) (begun (read m) .args .nulls .now) (m .fill-plan .last .1 .1 .0) (begun (read m) .args .n) e
+planned m e w = m .fill-plan .ensures _ _ e w
 
 -- the node that came is one of the n, or the start
 came-below : (c : tie.After-node) → c .node .given .0 .0 ≤ begun (c .before .before) .args .n
@@ -66,33 +71,35 @@ came-below c =
 
 run-requires : tie.Need-run-requires
 run-requires c κs =
-    let node = c .before .before .before in
-    let r = node .before .before in
-    let ready = begun r .pre in
-    (came-below node, (ready .0, planned r (ready .0) (ready .1)))
+    let m = c .before .before in
+    let ready = begun (read m) .pre in
+    (came-below (node m), (ready .0, planned m (ready .0) (ready .1)))
+
+-- where the run has gone on
+abbrev filled : tie.After-run → tie.After-fill-plan
+filled ran = ran .before .before .before
 
 verdict-requires : tie.Need-verdict-requires
 verdict-requires c κs =
     let ran = c .before .before in
-    let node = ran .before .before .before .before in
-    let r = node .before .before in
-    let ready = begun r .pre in
-    (omega (arith, ran .run .ensures .0, came-below node), (ran .run .ensures .1 .0, (ready .0, planned r (ready .0) (ready .1))))
+    let m = filled ran in
+    let ready = begun (read m) .pre in
+    (omega (arith, ran .run .ensures .0, came-below (node m)), (ran .run .ensures .1 .0, (ready .0, planned m (ready .0) (ready .1))))
 
 encode-requires : tie.Need-encode-requires
 encode-requires c κs =
     let ran = c .before .before .before .before .before in
-    let node = ran .before .before .before .before in
-    let r = node .before .before in
+    let m = filled ran in
+    let r = read m in
     let ready = begun r .pre in
     let e = ready .0 in
     let came = told r e (ready .1) in
-    let same = node .node .given .1 in
+    let same = node m .node .given .1 in
     let run-on = ran .run .ensures .1 .1 e in (
       read-long e (bytes r) (counts r) _ _ came same,
       (
-        ran-long e (bytes r) (counts r) (events r) _ _ _ _ _ came same (λ k s. run-on k (planned r e (ready .1)) s),
-        omega (arith, ran .run .ensures .0, ready .1 .listing .few),
+        ran-long e (bytes r) (counts r) (events r) _ _ _ _ _ came same (λ k s. run-on k (planned m e (ready .1)) s),
+        omega (arith, ran .run .ensures .0, ready .1 .listing .few, came-below (node m)),
       ),
     )
 
@@ -112,26 +119,26 @@ returns-2 c =
     let coded = c .before .before in
     let judged = coded .before .before .before in
     let ran = judged .before .before .before in
-    let node = ran .before .before .before .before in
-    let r = node .before .before in
+    let m = filled ran in
+    let r = read m in
     λ e w.
-    went-on e (bytes r) (events r) (counts r) (ran .run .last .1 .1 .1 .1 .1 .1 .0) _ _ _ _ _ _ (omega (arith, tables-repeats w, w .few-repeats)) (told r e w) (node .node .given .1)
-    (λ k s. ran .run .ensures .1 .1 e k (planned r e w) s)
-    (λ k s. judged .verdict .ensures e k (planned r e w) s)
+    went-on e (bytes r) (events r) (counts r) (ran .run .last .1 .1 .1 .1 .1 .1 .0) _ _ _ _ _ _ (omega (arith, tables-repeats w, w .few-repeats)) (told r e w) (node m .node .given .1)
+    (λ k s. ran .run .ensures .1 .1 e k (planned m e w) s)
+    (λ k s. judged .verdict .ensures e k (planned m e w) s)
     (coded .encode .ensures)
 
 pub go-on-spec : {M : Type 1} → statement M
 go-on-spec =
     tie.close
     (tie.spec
-    fill-plan-requires
     read-state-requires
-    enum-told
     enum-known-node
+    enum-told
+    same-length
+    returns
+    fill-plan-requires
     run-requires
     verdict-requires
     encode-requires
-    same-length
-    returns
     same-length-2
     returns-2)

@@ -20,16 +20,13 @@ read-state-requires c κs = search needs
 -- ---- what is known once the state is read
 
 abbrev begun : tie.After-read-state → tie.Start
-begun r = r .before .before .before .before .before
+begun r = r .before .before .before
 
 abbrev nodes : tie.After-read-state → List ℕ
 nodes r = begun r .args .nodes .now
 
 abbrev bytes : tie.After-read-state → List ℕ
 bytes r = begun r .args .bytes .now
-
-abbrev plan : tie.After-read-state → List ℕ
-plan r = r .before .before .fill-plan .last .1 .1 .0
 
 abbrev counts : tie.After-read-state → List ℕ
 counts r = r .read-state .last .1 .1 .1 .1 .1 .1 .1 .0
@@ -38,10 +35,6 @@ counts r = r .read-state .last .1 .1 .1 .1 .1 .1 .1 .0
 abbrev Has : tie.After-read-state → Expr → Type 0
 Has r e =
     Tables (nodes r) (begun r .args .starts .now) (begun r .args .nulls .now) (begun r .args .repeats .now) (begun r .args .n) (begun r .args .r) e
-
-planned : (r : tie.After-read-state) (e : Expr) → Has r e
-    → Plans (nodes r) (begun r .args .starts .now) (begun r .args .nulls .now) (plan r) (begun r .args .n) e
-planned r e w = r .before .before .fill-plan .ensures _ _ e w
 
 told : (r : tie.After-read-state) (e : Expr) → Has r e → ReadOf e (bytes r) (counts r) (r .read-state .result)
 told r e w = r .read-state .ensures e w
@@ -52,16 +45,29 @@ enum-told c = search needs
 enum-known-node : tie.Need-enum-known-node
 enum-known-node c = search needs
 
+-- ---- and once the plan is filled
+
+abbrev node : tie.After-fill-plan → tie.After-node
+node m = m .before .before .before
+
+abbrev read : tie.After-fill-plan → tie.After-read-state
+read m = node m .before .before
+
+planned : (m : tie.After-fill-plan) (e : Expr) → Has (read m) e
+    → Plans (nodes (read m)) (begun (read m) .args .starts .now) (begun (read m) .args .nulls .now) (m .fill-plan .last .1 .1 .0) (begun (read m) .args .n) e
+planned m e w = m .fill-plan .ensures _ _ e w
+
 lit-requires : tie.Need-lit-requires
 lit-requires c κs =
-    let node = c .before .before in
-    let r = node .before .before in
+    let m = c .before in
+    let r = read m in
     let pre = begun r .pre in
     let e = pre .0 in
     let listing = pre .1 .listing in
+    let same = node m .node .given .1 in
     let came = told r e (pre .1) in (
-      read-below e (bytes r) (counts r) _ _ _ (listing .sized) came (node .node .given .1),
-      (read-event e (bytes r) (counts r) _ _ listing came (node .node .given .1), (e, planned r e (pre .1))),
+      read-below e (bytes r) (counts r) _ _ _ (listing .sized) came same,
+      (read-event e (bytes r) (counts r) _ _ listing came same, (e, planned m e (pre .1))),
     )
 
 returns : tie.Need-returns
@@ -69,12 +75,19 @@ returns c = let r = c .before .before in λ f e a w. prompts-unreached f (bytes 
 
 returns-2 : tie.Need-returns-2
 returns-2 c =
-    let node = c .before .before .before in
-    let r = node .before .before in
+    let m = c .before .before in
+    let r = read m in
     λ f e a w.
-    prompts-lit f (bytes r) (counts r) e _ _ (c .lit .result) a w (planned r e w) (told r e w) (node .node .given .1) (c .lit .ok) (c .lit .ensures)
+    prompts-lit f (bytes r) (counts r) e _ _ (c .lit .result) a w (planned m e w) (told r e w) (node m .node .given .1) (c .lit .ok) (c .lit .ensures)
 
 pub light-spec : {M : Type 1} → statement M
 light-spec =
     tie.close
-    (tie.spec fill-plan-requires read-state-requires enum-told enum-known-node lit-requires returns returns-2)
+    (tie.spec
+    read-state-requires
+    enum-known-node
+    enum-told
+    returns
+    fill-plan-requires
+    lit-requires
+    returns-2)
