@@ -56,14 +56,14 @@ fn in_table(entry: u64) -> bool
     if code != 0 {
         return false;
     }
-    if kind == entry::EMPTY {
-        return no_fields(entry);
-    }
     if kind == entry::REPEAT {
         return bounds_written(entry::lower_of(entry), entry::upper_of(entry));
     }
     if entry::REPEAT < kind {
         return false;
+    }
+    if kind == entry::EMPTY {
+        return no_fields(entry);
     }
     if entry::upper_of(entry) != 0 {
         return false;

@@ -29,14 +29,6 @@ returns-3 c =
     let kind = c .before .before .before .kind-of in
     λ t. c .if3 .taken (c .before .before .code-of .ensures ∙ code-kept t (λ e. c .before .if1 .left (kind .ensures ∙ e)))
 
-no-fields-requires-2 : tie.Need-no-fields-requires-2
-no-fields-requires-2 c κs = search needs
-
-returns-4 : tie.Need-returns-4
-returns-4 c =
-    let start = c .before .before .before .before .before .before in
-    empty-decided (unpacked (start .args .entry)) (c .no-fields2 .result) (omega arith) (omega arith) (c .no-fields2 .ensures)
-
 lower-of-requires : tie.Need-lower-of-requires
 lower-of-requires c κs = search needs
 
@@ -46,10 +38,10 @@ upper-of-requires c κs = search needs
 bounds-written-requires : tie.Need-bounds-written-requires
 bounds-written-requires c κs = search needs
 
-returns-5 : tie.Need-returns-5
-returns-5 c =
+returns-4 : tie.Need-returns-4
+returns-4 c =
     let bounds = c .before in
-    let start = bounds .before .before .before .before .before .before .before .before in
+    let start = bounds .before .before .before .before .before .before .before in
     repeat-decided
     (unpacked (start .args .entry))
     (c .bounds-written .result)
@@ -61,17 +53,25 @@ returns-5 c =
     (bounds .upper-of .ensures)
     (c .bounds-written .ensures)
 
+returns-5 : tie.Need-returns-5
+returns-5 c = λ t. let h = kind-kept t in omega arith
+
+no-fields-requires-2 : tie.Need-no-fields-requires-2
+no-fields-requires-2 c κs = search needs
+
 returns-6 : tie.Need-returns-6
-returns-6 c = λ t. let h = kind-kept t in omega arith
+returns-6 c =
+    let start = c .before .before .before .before .before .before .before .before in
+    empty-decided (unpacked (start .args .entry)) (c .no-fields2 .result) (omega arith) (omega arith) (c .no-fields2 .ensures)
 
 upper-of-requires-2 : tie.Need-upper-of-requires-2
 upper-of-requires-2 c κs = search needs
 
 returns-7 : tie.Need-returns-7
 returns-7 c =
-    let other = c .before .before .before in
-    let kind = other .before .before .before .before .before .kind-of in
-    λ t. c .if7 .taken (c .before .upper-of2 .ensures ∙ upper-kept t (λ e. other .if5 .left (kind .ensures ∙ e)))
+    let other = c .before .before .before .before in
+    let kind = other .before .before .before .before .kind-of in
+    λ t. c .if7 .taken (c .before .upper-of2 .ensures ∙ upper-kept t (λ e. other .if4 .left (kind .ensures ∙ e)))
 
 returns-8 : tie.Need-returns-8
 returns-8 c =
@@ -88,12 +88,12 @@ in-table-spec =
     no-fields-requires
     returns-2
     returns-3
-    no-fields-requires-2
-    returns-4
     lower-of-requires
     upper-of-requires
     bounds-written-requires
+    returns-4
     returns-5
+    no-fields-requires-2
     returns-6
     upper-of-requires-2
     returns-7
