@@ -1,10 +1,10 @@
--- The laws that belong to no one function: `Nodes` and `Standing` for whoever reads a file, `Deciding` for whoever tests a repeat's
--- bounds, the others for the proofs of this crate.
-pub mod Limits
+-- The laws that belong to no one function: for whoever stands above the file, and, where they are not `pub`, for the proofs of this
+-- crate.
 pub mod Counting
 pub mod Deciding
 pub mod Empties
 pub mod Entries
+pub mod Limits
 mod Lines
 pub mod Nodes
 mod Openings

@@ -19,7 +19,7 @@ use Rattle.meaning.specs.Promises.{Judges, JudgePromise}
 use Rattle.meaning.specs.Strong.{StronglyDeterministic}
 use Rattle.meaning.proofs.file.Files.{holds-bounded}
 use Rattle.meaning.proofs.determinism.Lowest.{lowest-iff-not-strong}
-use Rattle.meaning.proofs.file.Refusals.{holds-unique, holds-not-refused, admitted-not-barred, barred-unique}
+use Rattle.meaning.proofs.file.Refusals.{holds-unique, holds-not-refused, admitted-not-barred, barred-node-small, barred-unique}
 
 -- the file is well-formed with the expression, and has at most 32 repeats
 abbrev pub FewRepeats : List ℕ → Expr → Type 0
@@ -32,6 +32,11 @@ held-few : {f : List ℕ} {e : Expr} → Holds f e → FewRepeats f e
 held-few h = (h .formed, h .few)
 
 -- ---- the numbers of refusals
+
+-- the node of a refusal is one of the file's, of which there are at most 512
+pub refused-node : (f : List ℕ) {a : JudgeAnswer} {r : Refusal} → Judges f a → a ≡ answer.Refused r → row r .node < 512
+refused-node f (Judges.refused r b) told = omega (arith, barred-node-small f r b, ap (λ (x : JudgeAnswer). judgeNumbers x .node) told)
+refused-node f (Judges.admitted e d) told = let z : _≡_ {A = ℕ} 0 1 = cc in absurd (omega arith)
 
 some-number : (r : Refusal) → 1 ≤ row r .answer
 some-number Size = omega arith

@@ -3,7 +3,8 @@ use borrow.Author.Needs.{needs}
 use mathlib.Core.Path.{refl}
 use Rattle.meaning.specs.Numbers.{judged, judgeNumbers}
 use Rattle.meaning.specs.Promises.{JudgePromise}
-use Rattle.seqp.proofs.Laws.{arm, node-small}
+use Rattle.meaning.proofs.promises.JudgeNumbers.{refused-node}
+use Rattle.seqp.proofs.Laws.{arm}
 use Rattle.seqp.proofs.seq_judge.Statement.{statement}
 use Rattle.seqp.proofs.seq_judge.Tie as tie
 
@@ -21,7 +22,7 @@ node-of-requires c κs = search needs
 
 cast-node : tie.Need-cast-node
 cast-node c =
-    let small = node-small _ (c .before .before .before .before .judge .ensures) (c .before .before .refusal .given .1) in
+    let small = refused-node _ (c .before .before .before .before .judge .ensures) (c .before .before .refusal .given .1) in
     search needs
 
 kind-of-requires : tie.Need-kind-of-requires
