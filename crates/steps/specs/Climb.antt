@@ -21,8 +21,8 @@ allowed j (upto n) = leb j n
 allowed j endless = true
 
 -- a repeat with c blocks begun may begin one more with q, of whose body y is the node
-abbrev pub againOf : Node → List ℕ → List ℕ → ℕ → ℕ → ℕ → Bool
-againOf m starts plan c y q = beginsOf starts plan y q && allowed (c + 1) (bound (upperOf m))
+abbrev pub beginsAgain : Node → List ℕ → List ℕ → ℕ → ℕ → ℕ → Bool
+beginsAgain m starts plan c y q = beginsOf starts plan y q && allowed (c + 1) (bound (upperOf m))
 
 -- c blocks of a repeat are enough
 abbrev pub enoughOf : Node → Bool → ℕ → Bool
@@ -35,7 +35,7 @@ lookInto starts nulls plan y q = cond (beginsOf starts plan y q) Turns (cond (ge
 -- at a repeat with c blocks begun, of whose body y is the node
 abbrev pub lookRepeat : Node → List ℕ → List Bool → List ℕ → ℕ → ℕ → ℕ → Look
 lookRepeat m starts nulls plan c y q =
-    cond (againOf m starts plan c y q) Turns (cond (enoughOf m (getD nulls y false) c) On Stops)
+    cond (beginsAgain m starts plan c y q) Turns (cond (enoughOf m (getD nulls y false) c) On Stops)
 
 -- at node x
 abbrev pub lookOf : List ℕ → List ℕ → List Bool → List ℕ → List ℕ → ℕ → ℕ → Look

@@ -3,7 +3,7 @@ ghost use mathlib.Core.Path.{_≡_};
 ghost use Prim.Native.Nat.{_+_, _≤_, _<_};
 ghost use Rattle.procedure.specs.Entry.{unpacked};
 ghost use Rattle.plan.specs.Plan.{aboveAt, Ranked, Rises};
-ghost use Rattle.steps.specs.Climb.{againOf, lookInto, lookRepeat, lookOf, Climbs};
+ghost use Rattle.steps.specs.Climb.{beginsAgain, lookInto, lookRepeat, lookOf, Climbs};
 use plan::link;
 use procedure::bounds;
 use procedure::entry;
@@ -49,9 +49,16 @@ fn look_into(
 }
 
 // Whether the repeat with c blocks begun may begin one more with q; y is the node of its body.
-fn again(node: u64, starts: &[u16; 512], plan: &[u64; 512], c: u16, y: usize, q: usize) -> bool
+fn begins_again(
+    node: u64,
+    starts: &[u16; 512],
+    plan: &[u64; 512],
+    c: u16,
+    y: usize,
+    q: usize,
+) -> bool
     requires { ⌜ y < 512 ⌝ }
-    ensures { λ r. ⌜ r ≡ againOf (unpacked node) (now (starts .entry)) (now (plan .entry)) c y q ⌝ }
+    ensures { λ r. ⌜ r ≡ beginsAgain (unpacked node) (now (starts .entry)) (now (plan .entry)) c y q ⌝ }
 {
     if plan::begins(starts, plan, y, q) {
         return bounds::allows(node, numbers::wide(c) + 1);
@@ -72,7 +79,7 @@ fn look_repeat(
     requires { ⌜ y < 512 ⌝ }
     ensures { λ r. ⌜ r ≡ lookRepeat (unpacked node) (now (starts .entry)) (now (nulls .entry)) (now (plan .entry)) c y q ⌝ }
 {
-    if again(node, starts, plan, c, y, q) {
+    if begins_again(node, starts, plan, c, y, q) {
         return Look::Turns;
     }
     if bounds::enough(node, nulls[y], numbers::wide(c)) {

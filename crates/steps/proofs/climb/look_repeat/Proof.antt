@@ -21,11 +21,11 @@ tested m =
     let least = low (getD (start m .args .nulls .now) (start m .args .y) false) (lowerOf (unpacked (start m .args .node))) in
     enough-told least (m .before .wide .result) (m .enough .result) (m .enough .ensures) ∙ ap (leb least) (m .before .wide .ensures)
 
-again-requires : tie.Need-again-requires
-again-requires c κs = search needs
+begins-again-requires : tie.Need-begins-again-requires
+begins-again-requires c κs = search needs
 
 returns : tie.Need-returns
-returns c = taken _ _ _ (sym (c .before .again .ensures) ∙ c .if1 .taken)
+returns c = taken _ _ _ (sym (c .before .begins-again .ensures) ∙ c .if1 .taken)
 
 element-copy-out-enough : tie.Need-element-copy-out-enough
 element-copy-out-enough c = search needs
@@ -39,18 +39,18 @@ enough-requires c κs = search needs
 returns-2 : tie.Need-returns-2
 returns-2 c =
     let e = c .before .before .before .before in
-    left _ _ _ _ (sym (e .before .again .ensures) ∙ e .if1 .left) (taken _ _ _ (sym (tested (c .before)) ∙ c .if2 .taken))
+    left _ _ _ _ (sym (e .before .begins-again .ensures) ∙ e .if1 .left) (taken _ _ _ (sym (tested (c .before)) ∙ c .if2 .taken))
 
 returns-3 : tie.Need-returns-3
 returns-3 c =
     let e = c .before .before .before .before in
-    left _ _ _ _ (sym (e .before .again .ensures) ∙ e .if1 .left) (left _ _ _ _ (sym (tested (c .before)) ∙ c .if2 .left) refl)
+    left _ _ _ _ (sym (e .before .begins-again .ensures) ∙ e .if1 .left) (left _ _ _ _ (sym (tested (c .before)) ∙ c .if2 .left) refl)
 
 pub look-repeat-spec : {M : Type 1} → statement M
 look-repeat-spec =
     tie.close
     (tie.spec
-    again-requires
+    begins-again-requires
     returns
     element-copy-out-enough
     wide-requires

@@ -1,4 +1,4 @@
--- `steps::climb::again` meets its contract. Assumes nothing.
+-- `steps::climb::begins_again` meets its contract. Assumes nothing.
 use mathlib.Core.Path.{sym, ap, _∙_}
 use Prim.Native.Nat.{ℕ, _+_}
 use borrow.Author.Needs.{needs}
@@ -7,8 +7,8 @@ use Rattle.procedure.specs.Entry.{unpacked, upperOf}
 use Rattle.plan.proofs.Tests.{both-first, both-second}
 use Rattle.steps.specs.Climb.{allowed}
 use Rattle.steps.proofs.Tests.{allowed-told}
-use Rattle.steps.proofs.climb.again.Statement.{statement}
-use Rattle.steps.proofs.climb.again.Tie as tie
+use Rattle.steps.proofs.climb.begins_again.Statement.{statement}
+use Rattle.steps.proofs.climb.begins_again.Tie as tie
 
 begins-requires : tie.Need-begins-requires
 begins-requires c κs = search needs
@@ -33,6 +33,6 @@ returns c =
 returns-2 : tie.Need-returns-2
 returns-2 c = both-first _ _ (sym (c .before .begins .ensures) ∙ c .if1 .left)
 
-pub again-spec : {M : Type 1} → statement M
-again-spec =
+pub begins-again-spec : {M : Type 1} → statement M
+begins-again-spec =
     tie.close (tie.spec begins-requires wide-requires add-allows allows-requires returns returns-2)
