@@ -5,9 +5,10 @@ a call gives is compared with what it must give: a wrong answer has no figure. A
 not have yet is not measured, and its rows say so. The exit status is 0 if no target is missed, 1 if one is or
 a call answers wrongly, 2 if nothing could be measured.
 
-    bench.py [ARCHIVE]    an archive in place of the one that rt makes
+    bench.py [--stack] [ARCHIVE]    an archive in place of the one that rt makes; --stack: the stack alone
 """
 import platform
+import re
 import subprocess
 import sys
 from pathlib import Path
@@ -34,10 +35,17 @@ MIDRUN_LIMITS = {"P10": 77_000}
 # Twice the nodes may cost so many times as much.
 DOUBLING_TARGET = "2.2"
 
+# The header states the stack of a call in whole 1,024 bytes, and no more than so many beyond what is measured.
+HEADER = TOP / "include" / "seqp.h"
+STATED = re.compile(r"^#define SEQ_(\w+)_STACK (\d+)$", re.M)
+MOST_BEYOND = 2048
+
 # libxml2's cost of a repetition settles only after the first, when its memory is used again.
 LIBXML2_REPEATS = 10
 # A shorter run says nothing on the cost of an event in bulk.
 LEAST_BULK = 4096
+
+CALLS = ("judge", "follow", "write", "check", "prompt")
 
 
 class Failed(Exception):
@@ -207,6 +215,12 @@ class Table:
         say(line((what, name, figure(mine), figure(theirs), ratio, target or "", verdict)))
         return mine
 
+    def stack_row(self, what, ours, stated):
+        """A row of bytes; the header states as many or somewhat more."""
+        mine = ours()
+        held = stated is not None and mine <= stated <= mine + MOST_BEYOND
+        say(line((what, "deepest", figure(mine), "", "", "", f"{self.judged(held)}, the header states {stated or 0:,}")))
+
     def judged(self, held):
         self.met, self.missed = self.met + held, self.missed + (not held)
         return "met" if held else "MISSED"
@@ -270,31 +284,47 @@ class Bench:
             before = self.table.row(what, name, lambda: self.ours.cost(call, f"{shape}{nodes}", given),
                                     before, target)
 
-    def stack(self):
-        for call in ("judge", "follow", "write", "check", "prompt"):
-            what, name = f"{call.capitalize()}, stack in bytes", "worst chain"
-            self.table.row(what, name, lambda: self.worst_stack(call), None)
-
-    def worst_stack(self, call):
-        longest = procedures.SIZES[-1]
-        return max(self.ours.stack(call, f"{shape}{longest}", "all") for shape in ("left", "right"))
-
     def run(self):
         self.judge()
         self.follow_one()
         self.follow_midrun()
         self.in_bulk()
         self.growth()
-        self.stack()
+        stack_rows(self.ours, self.table)
         return self.table.end()
 
 
-def main():
+def stated_stack():
+    """The bytes that the header states, by call."""
+    return {call.lower(): int(stack) for call, stack in STATED.findall(HEADER.read_text(encoding="utf-8"))}
+
+
+def stack_rows(ours, table):
+    """What each call takes on the deepest procedures, held to what the header states."""
+    stated = stated_stack()
+    for call in CALLS:
+        table.stack_row(f"{call.capitalize()}, stack in bytes", lambda: worst_stack(ours, call), stated.get(call))
+
+
+def worst_stack(ours, call):
+    return max(ours.stack(call, name, "all") for name in procedures.DEEPEST)
+
+
+def stack_alone(ours):
+    table = Table()
+    stack_rows(ours, table)
+    return table.end()
+
+
+def main(words):
+    only_stack = words[:1] == ["--stack"]
+    archives = words[only_stack:]
     command("scripts/need", f"{COMPILER}={COMPILER_PACKAGES.get(platform.machine(), CROSS_PACKAGES)}")
     say("making the procedures, their runs and their records")
     procedures.write_all(FILES)
-    archive = Path(sys.argv[1]).resolve() if len(sys.argv) > 1 else build_archive()
-    ours = Ours(build_measure(archive))
+    ours = Ours(build_measure(Path(archives[0]).resolve() if archives else build_archive()))
+    if only_stack:
+        return stack_alone(ours)
     theirs = Theirs(build_libxml2())
     say(f"libxml2 {theirs.version}")
     say("")
@@ -303,7 +333,7 @@ def main():
 
 if __name__ == "__main__":
     try:
-        sys.exit(main())
+        sys.exit(main(sys.argv[1:]))
     except (Failed, OSError) as reason:
         say(f"bench: {reason}")
         sys.exit(2)

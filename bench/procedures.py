@@ -94,7 +94,22 @@ def shaped(shape, nodes):
 
 GROWING = {f"{shape}{nodes}": shaped(shape, nodes) for shape in SHAPES for nodes in SIZES}
 
-ALL = {**NAMED, **GROWING}
+# The most repeats and, with these, the most events that 512 nodes allow: a sequence takes two nodes for a step down
+# the chain, a repeat one.
+MOST_REPEATS = 32
+DEEP_EVENTS = (SIZES[-1] - MOST_REPEATS + 1) // 2
+
+
+def deepest(shape):
+    """All repeats around a chain, one block each: no part of a procedure lies deeper. The run is its one word."""
+    parts = events(DEEP_EVENTS)
+    return reduce(lambda body, _: repeat(body, 1, 1), range(MOST_REPEATS), SHAPES[shape](parts)), bytes(
+        code for _, code in parts)
+
+
+DEEPEST = {f"deepest {shape}": deepest(shape) for shape in ("left", "right")}
+
+ALL = {**NAMED, **GROWING, **DEEPEST}
 
 
 class NoWord(Exception):

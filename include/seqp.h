@@ -1,7 +1,7 @@
 /*
  * seqp.h: judge a procedure, follow runs against it, write and check records, prompt the operator.
  *
- * Link with libseqp.a (x86-64). Example, from the start of a run:
+ * Link with -lseqp (x86-64). Example, from the start of a run:
  *
  *     uint8_t state[SEQ_STATE_BYTES] = {0};
  *     uint64_t taken;
@@ -11,9 +11,10 @@
  *
  * What every call needs
  *   - Each slice is a pointer and a length in bytes, valid for that length: readable, and writable
- *     where the parameter is not const. A slice may be empty; its pointer is then any that is not null.
- *   - Each result parameter points to one writable number, aligned as its type asks.
+ *     where the parameter is not const. A slice may be empty; its pointer may then be any, null too.
+ *   - Each result parameter points to one writable number, aligned as its type asks; none may be null.
  *   - The slices and results lent to one call do not overlap each other.
+ *   - The stack has room for the bytes stated below, SEQ_JUDGE_STACK to SEQ_PROMPT_STACK.
  *   Nothing is asked of what the bytes hold: every file, state, run and record gets its answer.
  *
  * What every call gives
@@ -23,6 +24,9 @@
  *
  * A call allocates nothing, keeps no pointer and has no memory between calls: calls may run on several
  * threads at once, as long as none writes what another is lent.
+ *
+ * A record does not name its procedure. The record of the run 1 2 under e1,e2 is also a record under e7,e9,
+ * there of the run 7 9: keep a record together with the file that it was written for.
  */
 #ifndef SEQP_H
 #define SEQP_H
@@ -34,24 +38,74 @@
 extern "C" {
 #endif
 
+/* The version of this header and of the library that it was installed with, also as text: "0.2.0". */
+#define SEQ_VERSION_MAJOR 0
+#define SEQ_VERSION_MINOR 2
+#define SEQ_VERSION_PATCH 0
+#define SEQ_TEXT_OF(number) #number
+#define SEQ_TEXT(number) SEQ_TEXT_OF(number)
+#define SEQ_VERSION SEQ_TEXT(SEQ_VERSION_MAJOR) "." SEQ_TEXT(SEQ_VERSION_MINOR) "." SEQ_TEXT(SEQ_VERSION_PATCH)
+
+/* What a call gives means nothing until its answer is looked at: the compiler warns where it is not. */
+#if defined(__cplusplus) && __cplusplus >= 201703L
+#define SEQ_LOOK_AT [[nodiscard]]
+#elif defined(__GNUC__)
+#define SEQ_LOOK_AT __attribute__((__warn_unused_result__))
+#else
+#define SEQ_LOOK_AT
+#endif
+
 /*
- * The answers. The lowest number that applies is given. A call gives only those that are listed with it.
+ * The answers; seq_answer_words says when each is given. The lowest number that applies is given. A call gives
+ * only those that are listed with it.
  */
 enum seq_answer {
-    SEQ_DONE            = 0,  /* done */
-    SEQ_FILE_LENGTH     = 1,  /* file under 20 or over 8,204 bytes */
-    SEQ_LETTERS         = 2,  /* the four letters or the edition wrong */
-    SEQ_LAYOUT          = 3,  /* number of nodes or distance wrong, nodes longer than the file allows,
-                                 or text over 4,096 bytes */
-    SEQ_NODE            = 4,  /* a node record is malformed */
-    SEQ_ORDER           = 5,  /* postfix order broken, or the root not begun at node 0 */
-    SEQ_REPEATS         = 6,  /* more than 32 repeats */
-    SEQ_CONFLICT        = 7,  /* a conflict: the procedure is not strongly deterministic */
-    SEQ_STATE           = 8,  /* state not 66 bytes, or reached by no beginning of a word */
-    SEQ_RUN_LENGTH      = 9,  /* run over 65,536 events (seq_write) */
-    SEQ_RUN_INCOMPLETE  = 10, /* run not complete (seq_write) */
-    SEQ_SPACE           = 11  /* record longer than the space lent (seq_write) */
+    SEQ_DONE            = 0,
+    SEQ_FILE_LENGTH     = 1,
+    SEQ_LETTERS         = 2,
+    SEQ_LAYOUT          = 3,
+    SEQ_NODE            = 4,
+    SEQ_ORDER           = 5,
+    SEQ_REPEATS         = 6,
+    SEQ_CONFLICT        = 7,
+    SEQ_STATE           = 8,
+    SEQ_RUN_LENGTH      = 9,
+    SEQ_RUN_INCOMPLETE  = 10,
+    SEQ_SPACE           = 11
 };
+
+/* An answer in words, for a message or a log. */
+static inline const char *seq_answer_words(uint32_t answer)
+{
+    switch (answer) {
+    case SEQ_DONE:
+        return "done";
+    case SEQ_FILE_LENGTH:
+        return "file under 20 or over 8,204 bytes";
+    case SEQ_LETTERS:
+        return "the four letters or the edition wrong";
+    case SEQ_LAYOUT:
+        return "number of nodes or distance wrong, nodes longer than the file allows, or text over 4,096 bytes";
+    case SEQ_NODE:
+        return "a node record is malformed";
+    case SEQ_ORDER:
+        return "postfix order broken, or the root not begun at node 0";
+    case SEQ_REPEATS:
+        return "more than 32 repeats";
+    case SEQ_CONFLICT:
+        return "a conflict: the procedure is not strongly deterministic";
+    case SEQ_STATE:
+        return "state not 66 bytes, or reached by no beginning of a word";
+    case SEQ_RUN_LENGTH:
+        return "run over 65,536 events";
+    case SEQ_RUN_INCOMPLETE:
+        return "run not complete";
+    case SEQ_SPACE:
+        return "record longer than the space lent";
+    default:
+        return "not an answer of this library";
+    }
+}
 
 /* What seq_follow says of a run, with answer 0 only. */
 enum seq_verdict {
@@ -97,10 +151,22 @@ enum seq_conflict {
 #define SEQ_MOST_RUN 65536
 
 /*
+ * The stack that each call may take, in bytes, the caller's frame not counted: measured on the deepest
+ * procedures that there are, 511 nodes with 32 repeats in one chain, and rounded up to whole 1,024. A signal
+ * that is handled on the same stack needs its own besides.
+ */
+#define SEQ_JUDGE_STACK 93184
+#define SEQ_FOLLOW_STACK 97280
+#define SEQ_WRITE_STACK 97280
+#define SEQ_CHECK_STACK 50176
+#define SEQ_PROMPT_STACK 97280
+
+/*
  * Judges a procedure file.
  * Answers 0 to 7. *node is the node reported with 4 to 7, else 0; *kind (enum seq_conflict) and *code are
  * those of the conflict with 7, else 0. With answer 0 no call refuses the file.
  */
+SEQ_LOOK_AT
 uint32_t seq_judge(const uint8_t *file, size_t file_len, uint32_t *node, uint32_t *kind, uint32_t *code);
 
 /*
@@ -111,6 +177,7 @@ uint32_t seq_judge(const uint8_t *file, size_t file_len, uint32_t *node, uint32_
  * the call reports on the state given and leaves it. The number of events is not limited. A code above 63
  * never continues. Note that *verdict is 0 on a refusal too: look at the answer first.
  */
+SEQ_LOOK_AT
 uint32_t seq_follow(const uint8_t *file, size_t file_len, uint8_t *state, size_t state_len,
                     const uint8_t *events, size_t events_len, uint64_t *taken, uint32_t *verdict);
 
@@ -120,6 +187,7 @@ uint32_t seq_follow(const uint8_t *file, size_t file_len, uint8_t *state, size_t
  * was, and on a refusal the whole space does. Room for 130 bytes an event is always enough: no event lies
  * in more than 32 repeats, and so none has more than 65 items.
  */
+SEQ_LOOK_AT
 uint32_t seq_write(const uint8_t *file, size_t file_len, const uint8_t *run, size_t run_len,
                    uint8_t *space, size_t space_len, uint64_t *length);
 
@@ -128,6 +196,7 @@ uint32_t seq_write(const uint8_t *file, size_t file_len, const uint8_t *run, siz
  * Answers 0 to 6; a conflict does not matter here. *yes is 1 if the bytes are the record of some run of
  * the procedure, else 0 (an odd number of bytes is a 0). A record may have any length.
  */
+SEQ_LOOK_AT
 uint32_t seq_check(const uint8_t *file, size_t file_len, const uint8_t *record, size_t record_len,
                    uint32_t *yes);
 
@@ -138,6 +207,7 @@ uint32_t seq_check(const uint8_t *file, size_t file_len, const uint8_t *record, 
  * bound is at least 2, or that has none, may end and go on after every block, whatever its count. The state
  * is only read.
  */
+SEQ_LOOK_AT
 uint32_t seq_prompt(const uint8_t *file, size_t file_len, const uint8_t *state, size_t state_len,
                     uint64_t *set);
 

@@ -2,12 +2,12 @@
 
 #include "lent.h"
 
-static const enum side sides[] = {AT_BEGINNING, AT_END};
+static const enum side sides[] = {AT_BEGINNING, AT_END, AT_END_OR_NULL};
 enum { SIDES = sizeof sides / sizeof sides[0] };
 
 static const char *side_name(enum side side)
 {
-    return side == AT_BEGINNING ? "at the beginning" : "at the end";
+    return side == AT_BEGINNING ? "at the beginning" : side == AT_END ? "at the end" : "at the end or null";
 }
 
 static struct lent lend_slice(struct slice slice, enum side side)

@@ -1,7 +1,8 @@
 /*
- * The five calls, each made twice: with every slice and result at the beginning of what is reachable, and with
- * every one at its end. Files, runs, events, records and the state of a prompt are lent for reading only.
- * Results and space are lent full of junk. Each call is one case, and all that it gives is compared.
+ * The five calls, each made three times: with every slice and result at the beginning of what is reachable, with
+ * every one at its end, and so again with a null pointer for each empty slice. Files, runs, events, records and the
+ * state of a prompt are lent for reading only. Results and space are lent full of junk. Each call is one case, and
+ * all that it gives is compared.
  */
 #ifndef CALLS_H
 #define CALLS_H

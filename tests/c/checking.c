@@ -47,6 +47,9 @@ static const struct check_case {
     {"(a{0,1}b){0,2}", 0, 6, {4100, 4097, 0, 8196, 2, 8196}},
     {"(a{0,1}b){0,2}", 1, 6, {4100, 4097, 0, 8193, 2, 8196}},
     {"ab", 0, 6, {4100, 4097, 0, 8193, 2, 8196}},
+    /* a record does not name its procedure: two nodes and no more are the record of a run of each */
+    {"#1#2", 1, 2, {0, 1}},
+    {"#7#9", 1, 2, {0, 1}},
 };
 enum { CHECKS = sizeof checks / sizeof checks[0] };
 

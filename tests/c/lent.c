@@ -26,12 +26,14 @@ static struct lent reachable(size_t length, enum side side)
 {
     size_t inner = whole_pages(length);
     struct lent made = {NULL, length, NULL, inner + 2 * UNREACHABLE};
+    if (length == 0 && side == AT_END_OR_NULL)
+        return made;
     made.mapping = mmap(NULL, made.mapped, PROT_NONE, MAP_PRIVATE | MAP_ANONYMOUS, -1, 0);
     if (made.mapping == MAP_FAILED)
         fail("mmap");
     if (mprotect(made.mapping + UNREACHABLE, inner, PROT_READ | PROT_WRITE) != 0)
         fail("mprotect");
-    made.bytes = made.mapping + UNREACHABLE + (side == AT_END ? inner - length : 0);
+    made.bytes = made.mapping + UNREACHABLE + (side == AT_BEGINNING ? 0 : inner - length);
     return made;
 }
 
@@ -46,7 +48,7 @@ struct lent lend_writable(const uint8_t *bytes, size_t length, enum side side)
 struct lent lend(const uint8_t *bytes, size_t length, enum side side)
 {
     struct lent made = lend_writable(bytes, length, side);
-    if (mprotect(made.mapping + UNREACHABLE, whole_pages(length), PROT_READ) != 0)
+    if (made.bytes != NULL && mprotect(made.mapping + UNREACHABLE, whole_pages(length), PROT_READ) != 0)
         fail("mprotect");
     return made;
 }
@@ -66,6 +68,7 @@ struct lent lend_junk(size_t length, enum side side)
 
 void take_back(struct lent *lent)
 {
-    munmap(lent->mapping, lent->mapped);
+    if (lent->mapping != NULL)
+        munmap(lent->mapping, lent->mapped);
     lent->bytes = NULL;
 }

@@ -1,6 +1,7 @@
 /*
  * Memory lent to a call, with unreachable pages on either side. A slice stands at the beginning of what is
- * reachable or at its end, so that one byte before it, or one behind it, ends the test.
+ * reachable or at its end, so that one byte before it, or one behind it, ends the test. An empty slice may be lent as
+ * a null pointer too, as C callers do.
  */
 #ifndef LENT_H
 #define LENT_H
@@ -8,7 +9,7 @@
 #include <stddef.h>
 #include <stdint.h>
 
-enum side { AT_BEGINNING, AT_END };
+enum side { AT_BEGINNING, AT_END, AT_END_OR_NULL };
 
 struct lent {
     uint8_t *bytes;

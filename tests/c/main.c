@@ -16,6 +16,7 @@ static const struct section {
 } sections[] = {
     {"the unreachable pages", lending, 0},
     {"files that every call refuses", refusing, 1},
+    {"the header's words", words, 1},
     {"judge", judging, 1},
     {"follow", following, 1},
     {"write", writing, 1},

@@ -6,6 +6,7 @@
 
 void lending(struct tally *t);   /* the unreachable pages themselves */
 void refusing(struct tally *t);  /* files that are refused, by every call */
+void words(struct tally *t);     /* the header's words and version */
 void judging(struct tally *t);
 void following(struct tally *t);
 void writing(struct tally *t);
