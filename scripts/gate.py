@@ -131,6 +131,7 @@ def parts():
         command = ["cargo", "test", "--release", "--offline", "--manifest-path", f"tests/{name}/Cargo.toml"]
         yield f"the tests of tests/{name}", command, counted_by_cargo, {"CARGO_TARGET_DIR": str(BUILD / "cargo" / name)}
     yield "the procedures of examples", ["python3", "scripts/procedures", "--check"], counted_by_verdict, {}
+    yield "what makes procedures of sources", ["python3", "scripts/procedures-tests"], counted_by_verdict, {}
     yield "the header and the archive from C", ["python3", "scripts/c-tests"], counted_by_verdict, {}
     yield "what make install puts into place", ["python3", "scripts/install-tests"], counted_by_verdict, {}
     yield "the station on its scripts", ["python3", "scripts/station-tests"], counted_by_verdict, {}
