@@ -1,6 +1,6 @@
 -- The procedure file: free text, node records, trailer; and the refusals 1 to 7.
 use mathlib.Core.Path.{_≡_}
-use mathlib.Core.List.{List, [], _∷_}
+use mathlib.Core.List.{List, [], _∷_, _++_}
 use Prim.Native.Nat.{ℕ, suc, _+_, _-_, _*_, _≤_, _<_}
 use lib.ListN.{length, take, drop}
 use Rattle.meaning.specs.declared.Refusal.{Refusal}
@@ -98,3 +98,8 @@ pub data Barred (f : List ℕ) : Refusal → Type 0 where
 pub record Admitted (f : List ℕ) (e : Expr) : Type 0 where
   pub holds : Holds f e
   pub strong : StronglyDeterministic e
+
+-- the files have the same n node records, n from 1 to 512, and the same trailer, each after free text of 0 to 4,096 bytes
+pub data SameButText : List ℕ → List ℕ → Type 0 where
+  same-but-text : (text other rest : List ℕ) → length text ≤ 4096 → length other ≤ 4096 → length rest ≡ span (count rest)
+      → 1 ≤ count rest → count rest ≤ 512 → SameButText (text ++ rest) (other ++ rest)

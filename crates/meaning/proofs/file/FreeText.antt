@@ -1,5 +1,5 @@
--- The free text judges nothing: files that differ only in the bytes before the first node are refused alike and list the same
--- expression, so Judge answers them alike. Assumes nothing.
+-- The free text is not judged: a file and the same with other text are refused alike and hold the same expression. So it is for n from
+-- 1 to 512; for another n the length of the whole, and with it the text's, decides whether 1 is given or 3. Assumes nothing.
 use mathlib.Core.Path.{_≡_, sym, ap, ap₂, subst₂, _∙_, fun-ext}
 use mathlib.Core.Logic.{_↔_}
 use mathlib.Core.List.{List, _++_}
@@ -8,12 +8,10 @@ use native.Mathlib.Omega.{arith}
 use lib.ListN.{length, take, drop, length-append}
 use lib.Seq.{getD-append-add, drop-append-add}
 use Rattle.meaning.specs.declared.Refusal.{Refusal}
-use Rattle.meaning.specs.declared.JudgeAnswer.{JudgeAnswer}
 use Rattle.meaning.specs.Bytes.{byteAt, twoAt, fourAt}
 use Rattle.meaning.specs.Expr.{Expr, size}
-use Rattle.meaning.specs.File.{letters, count, edition, distance, span, recordAt, nodeAt, Sized, Lettered, Measured, Framed, WellFormed, Refused, by-size, by-letters, by-measures, by-record, by-order, by-root, by-repeats, Holds, Barred, malformed, conflicting, Admitted}
+use Rattle.meaning.specs.File.{letters, count, edition, distance, span, recordAt, nodeAt, Sized, Lettered, Measured, Framed, WellFormed, Refused, by-size, by-letters, by-measures, by-record, by-order, by-root, by-repeats, Holds, SameButText, same-but-text}
 use Rattle.meaning.specs.Node.{Node, node, InTable, InOrder, Stands, repeatsBelow}
-use Rattle.meaning.specs.Promises.{Judges, refused, admitted}
 
 -- ---- what is read past the text
 
@@ -129,22 +127,10 @@ module _ (f g : List ℕ) (a : TestedAlike f g) where
       by-repeats e i (formed-too f g a w) (moved f g a (λ h n. i < n) l) (moved f g a (λ h n. repeatsBelow h i ≡ 32) m)
       (moved f g a (λ h n. repeatsBelow h (suc i) ≡ 33) n)
 
-  barred-too : (r : Refusal) → Barred f r → Barred g r
-  barred-too r (malformed p) = malformed (refused-too r p)
-  barred-too r (conflicting e i k c p l) = conflicting e i k c (holds-too f g a p) l
-
-  admitted-too : (e : Expr) → Admitted f e → Admitted g e
-  admitted-too e p = record { holds = holds-too f g a (p .holds); strong = p .strong }
-
-  judges-too : (answer : JudgeAnswer) → Judges f answer → Judges g answer
-  judges-too answer (Judges.refused r p) = Judges.refused r (barred-too r p)
-  judges-too answer (Judges.admitted e p) = Judges.admitted e (admitted-too e p)
-
 -- ---- two texts
 
-texts-alike : (text other rest : List ℕ) → length text ≤ 4096 → length other ≤ 4096 → length rest ≡ span (count rest)
-    → 1 ≤ count rest → count rest ≤ 512 → TestedAlike (text ++ rest) (other ++ rest)
-texts-alike text other rest s t w least most =
+texts-alike : {f g : List ℕ} → SameButText f g → TestedAlike f g
+texts-alike (same-but-text text other rest s t w least most) =
     let l = length-append text rest in
     let m = length-append other rest in
     let c = text-count text rest s w in
@@ -160,10 +146,16 @@ texts-alike text other rest s t w least most =
       nodes = text-nodes text rest s w ∙ sym (text-nodes other rest t w);
     }
 
--- the free text changes no answer: `rest` is n node records and the trailer, n from 1 to 512. (For another n it is the text's length
--- that decides whether the file's is wrong, so whether 1 is given or 3.)
-pub text-judges-nothing : (text other rest : List ℕ) → length text ≤ 4096 → length other ≤ 4096 → length rest ≡ span (count rest)
-    → 1 ≤ count rest → count rest ≤ 512 → (answer : JudgeAnswer) → Judges (text ++ rest) answer ↔ Judges (other ++ rest) answer
-text-judges-nothing text other rest s t w least most answer =
-    let a = texts-alike text other rest s t w least most in
-    (judges-too (text ++ rest) (other ++ rest) a answer, judges-too (other ++ rest) (text ++ rest) (back a) answer)
+-- the files are refused alike and hold the same: all that the promises read of a file
+pub record ReadAlike (f g : List ℕ) : Type 0 where
+  pub refused : (r : Refusal) → Refused f r ↔ Refused g r
+  pub holds : (e : Expr) → Holds f e ↔ Holds g e
+
+-- a file and the same with other text are read alike
+pub text-read-alike : (f g : List ℕ) → SameButText f g → ReadAlike f g
+text-read-alike f g t =
+    let a = texts-alike t in
+    record {
+      refused = λ r. (refused-too f g a r, refused-too g f (back a) r);
+      holds = λ e. (holds-too f g a, holds-too g f (back a));
+    }
