@@ -16,6 +16,7 @@
 
 #include "station/keys.h"
 #include "station/notation.h"
+#include "station/plain.h"
 #include "station/procedure.h"
 #include "station/record.h"
 #include "station/refusal.h"
@@ -78,7 +79,8 @@ static void save_record(struct station *s, const char *path, const uint8_t *reco
     } else if (*path != '\0' && !store_record(path, record, length)) {
         refused(s);
     } else {
-        printf("Record of %zu bytes, checked%s%s:\n", length, *path != '\0' ? ", saved in " : "", path);
+        printf("Record of %zu bytes, checked", length);
+        say_of(stdout, *path != '\0' ? ", saved in " : "", path, ":\n");
         print_record(&s->procedure, &s->keys, record, length);
         if (*path == '\0')
             printf("Type save FILE to keep it in a file.\n");
@@ -110,10 +112,11 @@ static void check(struct station *s, const char *path)
     if (record == NULL) {
         refused(s);
     } else if (!is_checked(s, record, length)) {
-        printf("No: %s is no record of this procedure.\n", path);
+        say_of(stdout, "No: ", path, " is no record of this procedure.\n");
         refused(s);
     } else {
-        printf("Yes: %s is a record of this procedure, %zu bytes:\n", path, length);
+        say_of(stdout, "Yes: ", path, " is a record of this procedure, ");
+        printf("%zu bytes:\n", length);
         print_record(&s->procedure, &s->keys, record, length);
     }
     free(record);
@@ -192,18 +195,20 @@ static int read_event(const char *word, unsigned *code, size_t *times)
     const unsigned long number = strtoul(digits, &behind, 10);
     unsigned long count = 1;
     if (*digits < '0' || *digits > '9' || (*behind != '\0' && *behind != '*')) {
-        printf("\"%s\" is no event and no command. Type help for what there is.\n", word);
+        say_of(stdout, "\"", word, "\" is no event and no command. Type help for what there is.\n");
         return 0;
     }
     if (number > SEQ_MOST_CODE) {
-        printf("There is no key %s. Keys are 0 to %d.\n", word, SEQ_MOST_CODE);
+        say_of(stdout, "There is no key ", word, ". ");
+        printf("Keys are 0 to %d.\n", SEQ_MOST_CODE);
         return 0;
     }
     if (*behind == '*') {
         const char *counted = behind + 1;
         count = strtoul(counted, &behind, 10);
         if (*counted < '0' || *counted > '9' || *behind != '\0' || count < 1 || count > SEQ_MOST_RUN) {
-            printf("\"%s\": behind the * comes a number from 1 to %d.\n", word, SEQ_MOST_RUN);
+            say_of(stdout, "\"", word, "\": behind the * comes a number ");
+            printf("from 1 to %d.\n", SEQ_MOST_RUN);
             return 0;
         }
     }
@@ -285,7 +290,7 @@ static void converse(struct station *s, FILE *from, int is_script)
         if (length < 0)
             break;
         if (is_script)
-            printf("> %s\n", line);
+            say_of(stdout, "> ", line, "\n");
         if (length > MOST_LINE) {
             printf("The line is too long: at most %d characters are read.\n", MOST_LINE);
             refused(s);
@@ -307,12 +312,13 @@ static int is_admitted(struct station *s, const char *path)
     if (given.answer == SEQ_DONE || given.answer > SEQ_LAYOUT)
         read_keys(&s->procedure, &s->keys);
     if (given.answer == SEQ_DONE) {
-        printf("%s: admitted, %u node%s.\n", path, node_count(&s->procedure),
-               node_count(&s->procedure) == 1 ? "" : "s");
+        say_of(stdout, "", path, ": admitted, ");
+        printf("%u node%s.\n", node_count(&s->procedure), node_count(&s->procedure) == 1 ? "" : "s");
         print_text(&s->procedure);
         return 1;
     }
-    printf("%s: refused, answer %" PRIu32 ".\n", path, given.answer);
+    say_of(stdout, "", path, ": refused, ");
+    printf("answer %" PRIu32 ".\n", given.answer);
     if (given.answer > SEQ_LAYOUT)
         print_text(&s->procedure);
     explain_refusal(&s->procedure, &s->keys, given);
@@ -322,7 +328,7 @@ static int is_admitted(struct station *s, const char *path)
 static int usage(const char *why, const char *word)
 {
     if (why != NULL)
-        fprintf(stderr, "station: %s%s\n", why, word);
+        say_of(stderr, why, word, "\n");
     fprintf(why != NULL ? stderr : stdout,
             "usage: station [--script FILE] PROCEDURE\n"
             "  PROCEDURE      a procedure file, for example examples/procedures/zero.seqp\n"
@@ -336,7 +342,7 @@ static int work(const char *path, const char *script)
     static struct station s;
     FILE *from = script == NULL ? stdin : fopen(script, "r");
     if (from == NULL) {
-        fprintf(stderr, "station: cannot open %s: %s\n", script, strerror(errno));
+        say_why(stderr, "station: cannot open ", script, strerror(errno));
         return NOT_BEGUN;
     }
     if (!load_procedure(path, &s.procedure))
@@ -358,15 +364,15 @@ int main(int argc, char **argv)
             return usage(NULL, "");
         if (strcmp(argv[i], "--script") == 0) {
             if (++i == argc)
-                return usage("--script wants a FILE", "");
+                return usage("station: --script wants a FILE", "");
             script = argv[i];
         } else if (argv[i][0] == '-') {
-            return usage("there is no option ", argv[i]);
+            return usage("station: there is no option ", argv[i]);
         } else if (path != NULL) {
-            return usage("one procedure is enough, and there is another: ", argv[i]);
+            return usage("station: one procedure is enough, and there is another: ", argv[i]);
         } else {
             path = argv[i];
         }
     }
-    return path == NULL ? usage("which procedure?", "") : work(path, script);
+    return path == NULL ? usage("station: which procedure?", "") : work(path, script);
 }

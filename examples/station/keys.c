@@ -1,55 +1,64 @@
 #include "keys.h"
 
 #include <stdio.h>
-#include <stdlib.h>
 #include <string.h>
 
-static char plain(uint8_t byte)
+#include "plain.h"
+
+/* A line of the free text, without its end. */
+struct text_line {
+    const uint8_t *bytes;
+    size_t length;
+};
+
+static struct text_line line_at(const struct procedure *p, size_t at)
 {
-    return byte >= ' ' && byte <= '~' ? (char)byte : '?';
+    struct text_line line = {p->bytes + at, 0};
+    while (at + line.length < text_length(p) && line.bytes[line.length] != '\n')
+        line.length++;
+    return line;
 }
 
-/* The code that a line names, with the place of the name, or -1. */
-static long named_code(const char *line, const char **name)
+static int is_digit(uint8_t byte)
 {
-    char *behind;
-    if (line[0] != 'e' || line[1] < '0' || line[1] > '9')
+    return byte >= '0' && byte <= '9';
+}
+
+/* The code that a line names, with where the name begins, or -1. */
+static int named_code(struct text_line line, size_t *name)
+{
+    int code = 0;
+    size_t at = 1;
+    if (line.length < 2 || line.bytes[0] != 'e' || !is_digit(line.bytes[1]))
         return -1;
-    const long code = strtol(line + 1, &behind, 10);
-    *name = behind + 1;
-    return *behind == ' ' && code <= SEQ_MOST_CODE ? code : -1;
-}
-
-/* Copies a line's first bytes, and gives where the next line begins. */
-static size_t take_line(const struct procedure *p, size_t at, char *line, size_t room)
-{
-    const size_t end = text_length(p);
-    size_t length = 0;
-    for (; at < end && p->bytes[at] != '\n'; at++)
-        if (length < room - 1)
-            line[length++] = plain(p->bytes[at]);
-    line[length] = '\0';
-    return at + 1;
+    for (; at < line.length && is_digit(line.bytes[at]) && code <= SEQ_MOST_CODE; at++)
+        code = 10 * code + (line.bytes[at] - '0');
+    *name = at + 1;
+    return code <= SEQ_MOST_CODE && at < line.length && line.bytes[at] == ' ' ? code : -1;
 }
 
 void read_keys(const struct procedure *p, struct keys *keys)
 {
-    char line[MOST_NAME + 5]; /* with "e63 " before the name */
+    struct text_line line;
     memset(keys, 0, sizeof *keys);
-    for (size_t at = 0; at < text_length(p);) {
-        const char *name;
-        at = take_line(p, at, line, sizeof line);
-        const long code = named_code(line, &name);
-        if (code >= 0)
-            strncpy(keys->names[code], name, MOST_NAME);
+    for (size_t at = 0; at < text_length(p); at += line.length + 1) {
+        size_t name;
+        line = line_at(p, at);
+        const int code = named_code(line, &name);
+        if (code < 0)
+            continue;
+        keys->names[code].bytes = line.bytes + name;
+        keys->names[code].length = line.length - name < MOST_NAME ? line.length - name : MOST_NAME;
     }
 }
 
 void print_key(const struct keys *keys, unsigned code)
 {
     printf("e%u", code);
-    if (code < KEYS && keys->names[code][0] != '\0')
-        printf(" %s", keys->names[code]);
+    if (code < KEYS && keys->names[code].length > 0) {
+        printf(" ");
+        print_plain(stdout, keys->names[code].bytes, keys->names[code].length);
+    }
 }
 
 void print_keys(const struct keys *keys, uint64_t set)
@@ -67,9 +76,11 @@ void print_keys(const struct keys *keys, uint64_t set)
 
 void print_text(const struct procedure *p)
 {
-    char line[MOST_TEXT + 1];
-    for (size_t at = 0; at < text_length(p);) {
-        at = take_line(p, at, line, sizeof line);
-        printf("|%s%s\n", *line == '\0' ? "" : " ", line);
+    struct text_line line;
+    for (size_t at = 0; at < text_length(p); at += line.length + 1) {
+        line = line_at(p, at);
+        printf("|%s", line.length == 0 ? "" : " ");
+        print_plain(stdout, line.bytes, line.length);
+        printf("\n");
     }
 }

@@ -6,15 +6,19 @@
 
 enum { KEYS = SEQ_MOST_CODE + 1, MOST_NAME = 40 };
 
+/* Each name lies in the procedure's text and has at most MOST_NAME bytes; it has none where a key is not named. */
 struct keys {
-    char names[KEYS][MOST_NAME + 1];
+    struct {
+        const uint8_t *bytes;
+        size_t length;
+    } names[KEYS];
 };
 
 void read_keys(const struct procedure *p, struct keys *keys);
 void print_key(const struct keys *keys, unsigned code);
 void print_keys(const struct keys *keys, uint64_t set);
 
-/* The free text, with a sign in place of each byte that a serial line should not get. */
+/* The free text, in plain ASCII. */
 void print_text(const struct procedure *p);
 
 #endif

@@ -4,17 +4,19 @@
 #include <stdio.h>
 #include <string.h>
 
+#include "plain.h"
+
 int load_procedure(const char *path, struct procedure *p)
 {
     FILE *from = fopen(path, "rb");
     if (from == NULL) {
-        fprintf(stderr, "station: cannot open %s: %s\n", path, strerror(errno));
+        say_why(stderr, "station: cannot open ", path, strerror(errno));
         return 0;
     }
     p->length = fread(p->bytes, 1, sizeof p->bytes, from);
     const int failed = ferror(from);
     if (failed)
-        fprintf(stderr, "station: cannot read %s: %s\n", path, strerror(errno));
+        say_why(stderr, "station: cannot read ", path, strerror(errno));
     fclose(from);
     return !failed;
 }

@@ -5,6 +5,8 @@
 #include <stdlib.h>
 #include <string.h>
 
+#include "plain.h"
+
 static int is_there(const char *path)
 {
     FILE *file = fopen(path, "rb");
@@ -16,7 +18,7 @@ static int is_there(const char *path)
 int store_record(const char *path, const uint8_t *record, size_t length)
 {
     if (is_there(path)) {
-        printf("Not saved: %s is there already. Choose another name.\n", path);
+        say_of(stdout, "Not saved: ", path, " is there already. Choose another name.\n");
         return 0;
     }
     FILE *file = fopen(path, "wb");
@@ -24,7 +26,7 @@ int store_record(const char *path, const uint8_t *record, size_t length)
     if (file != NULL && fclose(file) != 0)
         stored = 0;
     if (!stored)
-        printf("Not saved: cannot write %s: %s\n", path, strerror(errno));
+        say_why(stdout, "Not saved: cannot write ", path, strerror(errno));
     return stored;
 }
 
@@ -36,9 +38,11 @@ uint8_t *load_record(const char *path, size_t *length)
     *length = file == NULL || record == NULL ? 0 : fread(record, 1, most + 1, file);
     const int failed = file == NULL || record == NULL || ferror(file);
     if (failed)
-        printf("Cannot read %s: %s\n", path, strerror(errno));
-    else if (*length > most)
-        printf("%s is too long: a record of this station has at most %zu bytes.\n", path, most);
+        say_why(stdout, "Cannot read ", path, strerror(errno));
+    else if (*length > most) {
+        say_of(stdout, "", path, " is too long: ");
+        printf("a record of this station has at most %zu bytes.\n", most);
+    }
     if (file != NULL)
         fclose(file);
     if (!failed && *length <= most)
