@@ -6,16 +6,17 @@
  *
  * Commands are read line by line from standard input, or from a script, which is shown as it is read. Output is
  * plain ASCII. The exit status is 0 if all went well, 1 if something was refused or not understood, and 2 if the
- * station could not begin.
+ * station could not begin or go on.
  */
-#include <errno.h>
 #include <inttypes.h>
 #include <stdio.h>
 #include <stdlib.h>
 #include <string.h>
 
 #include "station/keys.h"
+#include "station/lines.h"
 #include "station/notation.h"
+#include "station/opened.h"
 #include "station/plain.h"
 #include "station/procedure.h"
 #include "station/record.h"
@@ -23,9 +24,7 @@
 #include "station/run.h"
 #include "station/stored.h"
 
-enum { MOST_LINE = 1000 };
-
-enum status { WELL = 0, REFUSED = 1, NOT_BEGUN = 2 };
+enum status { WELL = 0, REFUSED = 1, UNABLE = 2 };
 
 struct station {
     struct procedure procedure;
@@ -246,9 +245,9 @@ static void obey(struct station *s, const struct command *command, const char *a
     refused(s);
 }
 
-static void take_line(struct station *s, char *line)
+static void take_words(struct station *s, char *words)
 {
-    char *word = strtok(line, " \t");
+    char *word = strtok(words, " \t");
     if (word == NULL || word[0] == '#')
         return;
     for (int i = 0; i < COMMANDS; i++)
@@ -260,47 +259,52 @@ static void take_line(struct station *s, char *line)
     take_events(s, word);
 }
 
-/* Reads a line without its end; gives its whole length, which may be more than was kept, or -1 at the end. */
-static long read_line(FILE *from, char line[MOST_LINE + 1])
+static void take_line(struct station *s, struct line *line)
 {
-    long length = 0;
-    int sign = getc(from);
-    if (sign == EOF)
-        return -1;
-    for (; sign != '\n' && sign != EOF; sign = getc(from)) {
-        if (length < MOST_LINE)
-            line[length] = (char)sign;
-        length++;
+    if (line->is_too_long)
+        printf("The line is too long: at most %d characters are read.\n", MOST_LINE);
+    else if (line->has_zero)
+        printf("The line has a zero byte and is not read.\n");
+    else {
+        take_words(s, line->text);
+        return;
     }
-    if (length > 0 && length <= MOST_LINE && line[length - 1] == '\r')
-        length--;
-    line[length <= MOST_LINE ? length : MOST_LINE] = '\0';
-    return length;
+    refused(s);
 }
 
-static void converse(struct station *s, FILE *from, int is_script)
+static enum input converse(struct station *s, struct lines *lines, int is_script)
 {
-    char line[MOST_LINE + 1];
+    struct line line;
     while (!s->quits) {
-        if (!is_script) {
+        if (!is_script)
             printf("> ");
-            fflush(stdout);
-        }
-        const long length = read_line(from, line);
-        if (length < 0)
-            break;
-        if (is_script)
-            say_of(stdout, "> ", line, "\n");
-        if (length > MOST_LINE) {
-            printf("The line is too long: at most %d characters are read.\n", MOST_LINE);
-            refused(s);
-        } else {
-            take_line(s, line);
-        }
         fflush(stdout);
+        const enum input input = read_line(lines, &line);
+        if (input != LINE)
+            return input;
+        if (is_script) {
+            printf("> ");
+            print_plain(stdout, line.text, line.length);
+            printf("\n");
+        }
+        take_line(s, &line);
     }
-    if (!is_script && !s->quits)
+    return LINE;
+}
+
+/* Says why the conversation ended, where that was not by a command, and gives the exit status. */
+static int ended(struct station *s, const struct lines *lines, enum input input, const char *script)
+{
+    if (s->quits)
+        return s->status;
+    if (script == NULL)
         printf("\n");
+    if (input == INPUT_FAILED) {
+        fflush(stdout);
+        say_why(stderr, "station: cannot read ", script == NULL ? "standard input" : script, strerror(lines->error));
+        return UNABLE;
+    }
+    return s->status;
 }
 
 /* The beginning. */
@@ -334,26 +338,25 @@ static int usage(const char *why, const char *word)
             "  PROCEDURE      a procedure file, for example examples/procedures/zero.seqp\n"
             "  --script FILE  take the commands from FILE and show them\n"
             "The station reads a command a line; help lists them.\n");
-    return why != NULL ? NOT_BEGUN : WELL;
+    return why != NULL ? UNABLE : WELL;
 }
 
 static int work(const char *path, const char *script)
 {
     static struct station s;
-    FILE *from = script == NULL ? stdin : fopen(script, "r");
-    if (from == NULL) {
-        say_why(stderr, "station: cannot open ", script, strerror(errno));
-        return NOT_BEGUN;
+    static struct lines lines; /* from standard input, descriptor 0 */
+    const char *why;
+    if (script != NULL && (lines.from = open_file(script, &why)) < 0) {
+        say_why(stderr, "station: cannot read ", script, why);
+        return UNABLE;
     }
     if (!load_procedure(path, &s.procedure))
-        return NOT_BEGUN;
+        return UNABLE;
     if (!is_admitted(&s, path))
         return REFUSED;
     begin(&s, "");
-    converse(&s, from, script != NULL);
-    if (script != NULL)
-        fclose(from);
-    return s.status;
+    const enum input input = converse(&s, &lines, script != NULL);
+    return ended(&s, &lines, input, script);
 }
 
 int main(int argc, char **argv)

@@ -1,24 +1,17 @@
 #include "procedure.h"
 
-#include <errno.h>
 #include <stdio.h>
-#include <string.h>
 
+#include "opened.h"
 #include "plain.h"
 
 int load_procedure(const char *path, struct procedure *p)
 {
-    FILE *from = fopen(path, "rb");
-    if (from == NULL) {
-        say_why(stderr, "station: cannot open ", path, strerror(errno));
-        return 0;
-    }
-    p->length = fread(p->bytes, 1, sizeof p->bytes, from);
-    const int failed = ferror(from);
-    if (failed)
-        say_why(stderr, "station: cannot read ", path, strerror(errno));
-    fclose(from);
-    return !failed;
+    const char *why;
+    const int loaded = read_file(path, p->bytes, sizeof p->bytes, &p->length, &why);
+    if (!loaded)
+        say_why(stderr, "station: cannot read ", path, why);
+    return loaded;
 }
 
 unsigned two_bytes(const uint8_t *at)

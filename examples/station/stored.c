@@ -5,6 +5,7 @@
 #include <stdlib.h>
 #include <string.h>
 
+#include "opened.h"
 #include "plain.h"
 
 static int is_there(const char *path)
@@ -34,19 +35,15 @@ uint8_t *load_record(const char *path, size_t *length)
 {
     const size_t most = (size_t)SEQ_ITEM_BYTES * MOST_ITEMS_AN_EVENT * SEQ_MOST_RUN;
     uint8_t *record = malloc(most + 1);
-    FILE *file = fopen(path, "rb");
-    *length = file == NULL || record == NULL ? 0 : fread(record, 1, most + 1, file);
-    const int failed = file == NULL || record == NULL || ferror(file);
-    if (failed)
-        say_why(stdout, "Cannot read ", path, strerror(errno));
-    else if (*length > most) {
+    const char *why = "there is no memory for it";
+    if (record == NULL || !read_file(path, record, most + 1, length, &why)) {
+        say_why(stdout, "Cannot read ", path, why);
+    } else if (*length > most) {
         say_of(stdout, "", path, " is too long: ");
         printf("a record of this station has at most %zu bytes.\n", most);
-    }
-    if (file != NULL)
-        fclose(file);
-    if (!failed && *length <= most)
+    } else {
         return record;
+    }
     free(record);
     return NULL;
 }
