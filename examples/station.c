@@ -17,6 +17,7 @@
 #include "station/lines.h"
 #include "station/notation.h"
 #include "station/opened.h"
+#include "station/output.h"
 #include "station/plain.h"
 #include "station/procedure.h"
 #include "station/record.h"
@@ -272,13 +273,15 @@ static void take_line(struct station *s, struct line *line)
     refused(s);
 }
 
+/* No command is obeyed whose answer could not be read: without an output the conversation ends. */
 static enum input converse(struct station *s, struct lines *lines, int is_script)
 {
     struct line line;
     while (!s->quits) {
         if (!is_script)
             printf("> ");
-        fflush(stdout);
+        if (!flush_output())
+            break;
         const enum input input = read_line(lines, &line);
         if (input != LINE)
             return input;
@@ -359,7 +362,7 @@ static int work(const char *path, const char *script)
     return ended(&s, &lines, input, script);
 }
 
-int main(int argc, char **argv)
+static int take_arguments(int argc, char **argv)
 {
     const char *path = NULL, *script = NULL;
     for (int i = 1; i < argc; i++) {
@@ -378,4 +381,12 @@ int main(int argc, char **argv)
         }
     }
     return path == NULL ? usage("station: which procedure?", "") : work(path, script);
+}
+
+int main(int argc, char **argv)
+{
+    if (!is_output_open())
+        return UNABLE;
+    const int status = take_arguments(argc, argv);
+    return close_output() ? status : UNABLE;
 }
