@@ -5,14 +5,15 @@
  *     station [--script FILE] PROCEDURE
  *
  * Commands are read line by line from standard input, or from a script, which is shown as it is read. Output is
- * plain ASCII. The exit status is 0 if all went well, 1 if something was refused or not understood, and 2 if the
- * station could not begin or go on.
+ * plain ASCII. The exit status is 0 if all went well, 1 if something was refused or not understood, 2 if the
+ * station could not begin or go on, and 128 and a signal's number if that interrupted it.
  */
 #include <inttypes.h>
 #include <stdio.h>
 #include <stdlib.h>
 #include <string.h>
 
+#include "station/interrupt.h"
 #include "station/keys.h"
 #include "station/lines.h"
 #include "station/notation.h"
@@ -25,7 +26,7 @@
 #include "station/run.h"
 #include "station/stored.h"
 
-enum status { WELL = 0, REFUSED = 1, UNABLE = 2 };
+enum status { WELL = 0, REFUSED = 1, UNABLE = 2, BY_SIGNAL = 128 };
 
 struct station {
     struct procedure procedure;
@@ -302,8 +303,12 @@ static int ended(struct station *s, const struct lines *lines, enum input input,
         return s->status;
     if (script == NULL)
         printf("\n");
+    flush_output();
+    if (interrupt() != 0) {
+        fprintf(stderr, "station: interrupted\n");
+        return BY_SIGNAL + interrupt();
+    }
     if (input == INPUT_FAILED) {
-        fflush(stdout);
         say_why(stderr, "station: cannot read ", script == NULL ? "standard input" : script, strerror(lines->error));
         return UNABLE;
     }
@@ -387,6 +392,7 @@ int main(int argc, char **argv)
 {
     if (!is_output_open())
         return UNABLE;
+    heed_interrupts();
     const int status = take_arguments(argc, argv);
-    return close_output() ? status : UNABLE;
+    return close_output() || status > UNABLE ? status : UNABLE;
 }

@@ -5,15 +5,20 @@
 #include <errno.h>
 #include <unistd.h>
 
+#include "interrupt.h"
+
 /* Sees to it that there is a byte to take; gives LINE, or why there is none. */
 static enum input fill(struct lines *lines)
 {
     ssize_t got;
     if (lines->at < lines->length)
         return LINE;
-    do
+    do {
+        wait_for_input(lines->from);
+        if (interrupt() != 0)
+            return INTERRUPTED;
         got = read(lines->from, lines->bytes, sizeof lines->bytes);
-    while (got < 0 && errno == EINTR);
+    } while (got < 0 && (errno == EINTR || errno == EAGAIN));
     lines->error = errno;
     lines->at = 0;
     lines->length = got > 0 ? (size_t)got : 0;
@@ -34,7 +39,7 @@ static void add(struct line *line, char byte)
 enum input read_line(struct lines *lines, struct line *line)
 {
     char byte;
-    enum input input = fill(lines);
+    enum input input = interrupt() != 0 ? INTERRUPTED : fill(lines);
     line->length = 0;
     line->is_too_long = line->has_zero = 0;
     while (input == LINE && (byte = lines->bytes[lines->at++]) != '\n') {

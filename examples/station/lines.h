@@ -21,8 +21,9 @@ struct line {
     int is_too_long, has_zero;
 };
 
-enum input { LINE, INPUT_ENDED, INPUT_FAILED };
+enum input { LINE, INPUT_ENDED, INPUT_FAILED, INTERRUPTED };
 
+/* After an interrupt there is no further line, also where one was read already. */
 enum input read_line(struct lines *lines, struct line *line);
 
 #endif

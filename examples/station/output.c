@@ -22,15 +22,18 @@ int is_output_open(void)
     return 0;
 }
 
+/* What failed once is not tried again: an interrupt ends the waiting for a reader, and it should not begin anew. */
 int flush_output(void)
 {
-    return fflush(stdout) == 0 && !ferror(stdout);
+    return !ferror(stdout) && fflush(stdout) == 0;
 }
 
 /* Some errors show only in the closing. */
 int close_output(void)
 {
     const int written = flush_output();
+    if (!written)
+        close(STDOUT_FILENO);
     if (fclose(stdout) == 0 && written)
         return 1;
     fprintf(stderr, "station: standard output cannot be written\n");
