@@ -5,8 +5,8 @@
  *     station [--script FILE] PROCEDURE
  *
  * Commands are read line by line from standard input, or from a script, which is shown as it is read. Output is
- * plain ASCII. The exit status is 0 if all went well, 1 if something was refused or not understood, 2 if the
- * station could not begin or go on, and 128 and a signal's number if that interrupted it.
+ * plain ASCII. The exit status is 0 if all went well, 1 if something was refused or not understood or a complete run
+ * was not saved, 2 if the station could not begin or go on, and 128 and a signal's number if that interrupted it.
  */
 #include <inttypes.h>
 #include <stdio.h>
@@ -33,6 +33,7 @@ struct station {
     struct keys keys;
     struct run run;
     enum status status;
+    const struct command *asked; /* the command that was answered with a question, if it was the last, or NULL */
     int quits;
 };
 
@@ -80,6 +81,8 @@ static void save_record(struct station *s, const char *path, const uint8_t *reco
     } else if (*path != '\0' && !store_record(path, record, length)) {
         refused(s);
     } else {
+        if (*path != '\0')
+            s->run.is_saved = 1;
         printf("Record of %zu bytes, checked", length);
         say_of(stdout, *path != '\0' ? ", saved in " : "", path, ":\n");
         print_record(&s->procedure, &s->keys, record, length);
@@ -159,21 +162,23 @@ static void quit(struct station *s, const char *nothing)
 static void help(struct station *s, const char *nothing);
 
 enum argument { NONE, MAYBE, NEEDED };
+enum effect { KEEPS_RUN, DROPS_RUN };
 
 static const struct command {
     const char *name;
     enum argument argument;
+    enum effect effect;
     void (*act)(struct station *s, const char *argument);
     const char *help;
 } commands[] = {
-    {"keys", NONE, keys, "keys         the keys that are lit: those that can come next"},
-    {"run", NONE, run, "run          the events so far"},
-    {"new", NONE, begin, "new          begin a new run"},
-    {"save", MAYBE, save, "save FILE    write, check and show the record of a complete run; FILE may be left out"},
-    {"check", NEEDED, check, "check FILE   check and show a record that was saved"},
-    {"show", NONE, show, "show         the procedure in its notation"},
-    {"help", NONE, help, "help         this text"},
-    {"quit", NONE, quit, "quit         leave"},
+    {"keys", NONE, KEEPS_RUN, keys, "keys         the keys that are lit: those that can come next"},
+    {"run", NONE, KEEPS_RUN, run, "run          the events so far"},
+    {"new", NONE, DROPS_RUN, begin, "new          begin a new run"},
+    {"save", MAYBE, KEEPS_RUN, save, "save FILE    write, check and show the record of a complete run; FILE may be left out"},
+    {"check", NEEDED, KEEPS_RUN, check, "check FILE   check and show a record that was saved"},
+    {"show", NONE, KEEPS_RUN, show, "show         the procedure in its notation"},
+    {"help", NONE, KEEPS_RUN, help, "help         this text"},
+    {"quit", NONE, DROPS_RUN, quit, "quit         leave"},
 };
 enum { COMMANDS = sizeof commands / sizeof commands[0] };
 
@@ -232,6 +237,18 @@ static void take_events(struct station *s, char *word)
 
 /* The console. */
 
+/* A complete run that is in no file is dropped by a command that is said twice in a row, and not before. */
+static int wants_asking(const struct station *s, const struct command *command)
+{
+    return command->effect == DROPS_RUN && is_unsaved(&s->run) && s->asked != command;
+}
+
+static void ask(struct station *s, const struct command *command)
+{
+    printf("The run is complete and not saved. Type save FILE to keep it, or %s again to drop it.\n", command->name);
+    s->asked = command;
+}
+
 static void obey(struct station *s, const struct command *command, const char *argument, int more)
 {
     if (command->argument == NEEDED && argument == NULL)
@@ -240,11 +257,22 @@ static void obey(struct station *s, const struct command *command, const char *a
         printf("%s takes nothing behind it.\n", command->name);
     else if (more)
         printf("%s takes one FILE, without spaces in its name.\n", command->name);
+    else if (wants_asking(s, command))
+        ask(s, command);
     else {
+        s->asked = NULL;
         command->act(s, argument == NULL ? "" : argument);
         return;
     }
     refused(s);
+}
+
+static const struct command *command_named(const char *word)
+{
+    for (int i = 0; i < COMMANDS; i++)
+        if (strcmp(word, commands[i].name) == 0)
+            return &commands[i];
+    return NULL;
 }
 
 static void take_words(struct station *s, char *words)
@@ -252,13 +280,15 @@ static void take_words(struct station *s, char *words)
     char *word = strtok(words, " \t");
     if (word == NULL || word[0] == '#')
         return;
-    for (int i = 0; i < COMMANDS; i++)
-        if (strcmp(word, commands[i].name) == 0) {
-            const char *argument = strtok(NULL, " \t");
-            obey(s, &commands[i], argument, argument != NULL && strtok(NULL, " \t") != NULL);
-            return;
-        }
-    take_events(s, word);
+    const struct command *command = command_named(word);
+    if (command != s->asked)
+        s->asked = NULL;
+    if (command == NULL) {
+        take_events(s, word);
+        return;
+    }
+    const char *argument = strtok(NULL, " \t");
+    obey(s, command, argument, argument != NULL && strtok(NULL, " \t") != NULL);
 }
 
 static void take_line(struct station *s, struct line *line)
@@ -271,6 +301,7 @@ static void take_line(struct station *s, struct line *line)
         take_words(s, line->text);
         return;
     }
+    s->asked = NULL;
     refused(s);
 }
 
@@ -296,23 +327,26 @@ static enum input converse(struct station *s, struct lines *lines, int is_script
     return LINE;
 }
 
-/* Says why the conversation ended, where that was not by a command, and gives the exit status. */
+/* Says why the conversation ended, where that was not by a command, and what is lost by it. */
 static int ended(struct station *s, const struct lines *lines, enum input input, const char *script)
 {
+    int status = s->status;
     if (s->quits)
-        return s->status;
+        return status;
     if (script == NULL)
         printf("\n");
     flush_output();
     if (interrupt() != 0) {
         fprintf(stderr, "station: interrupted\n");
-        return BY_SIGNAL + interrupt();
-    }
-    if (input == INPUT_FAILED) {
+        status = BY_SIGNAL + interrupt();
+    } else if (input == INPUT_FAILED) {
         say_why(stderr, "station: cannot read ", script == NULL ? "standard input" : script, strerror(lines->error));
-        return UNABLE;
+        status = UNABLE;
     }
-    return s->status;
+    if (!is_unsaved(&s->run))
+        return status;
+    fprintf(stderr, "station: the run was complete and is not saved\n");
+    return status == WELL ? REFUSED : status;
 }
 
 /* The beginning. */

@@ -21,12 +21,24 @@ const char *verdict_name(uint32_t verdict)
     return verdict == SEQ_COMPLETE ? "complete" : verdict == SEQ_UNFINISHED ? "unfinished" : "broken";
 }
 
-void begin_run(const struct procedure *p, struct run *run)
+/* Follows events from where the run stands, and gives how many were taken. */
+static uint64_t follow(const struct procedure *p, struct run *run, const uint8_t *events, size_t length)
 {
     uint64_t taken;
-    memset(run, 0, sizeof *run);
-    demand_done("seq_follow", seq_follow(p->bytes, p->length, run->state, sizeof run->state, run->events, 0, &taken,
+    demand_done("seq_follow", seq_follow(p->bytes, p->length, run->state, sizeof run->state, events, length, &taken,
                                          &run->verdict));
+    return taken;
+}
+
+void begin_run(const struct procedure *p, struct run *run)
+{
+    memset(run, 0, sizeof *run);
+    follow(p, run, run->events, 0);
+}
+
+int is_unsaved(const struct run *run)
+{
+    return run->verdict == SEQ_COMPLETE && run->length > 0 && !run->is_saved;
 }
 
 /* The keys that can follow the events taken. */
@@ -56,8 +68,17 @@ void print_run(const struct keys *keys, const struct run *run)
     }
 }
 
+/* Whether the events before the break are a complete run that is in no file, and that can't be saved any more. */
+static int is_lost(const struct procedure *p, struct run *run)
+{
+    follow(p, run, run->events, 0);
+    const int lost = is_unsaved(run);
+    run->verdict = SEQ_BROKEN;
+    return lost;
+}
+
 /* A key may be lit and yet break the run: the prompt does not look at counts. */
-static void explain_break(const struct procedure *p, const struct keys *keys, const struct run *run, unsigned code)
+static void explain_break(const struct procedure *p, const struct keys *keys, struct run *run, unsigned code)
 {
     const uint64_t lit = next_keys(p, run);
     printf("broken at event %zu.\n", run->length + 1);
@@ -68,6 +89,8 @@ static void explain_break(const struct procedure *p, const struct keys *keys, co
         print_keys(keys, lit);
         printf("\n");
     }
+    if (is_lost(p, run))
+        printf("The run was complete before this event, and it is not saved.\n");
     printf("Type new to begin anew.\n");
 }
 
@@ -87,13 +110,13 @@ static int may_take(const struct run *run, size_t times)
 int take_key(const struct procedure *p, const struct keys *keys, struct run *run, unsigned code, size_t times)
 {
     uint8_t *events = run->events + run->length;
-    uint64_t taken;
     if (!may_take(run, times))
         return 0;
     memset(events, (int)code, times);
-    demand_done("seq_follow", seq_follow(p->bytes, p->length, run->state, sizeof run->state, events, times, &taken,
-                                         &run->verdict));
+    const uint64_t taken = follow(p, run, events, times);
     run->length += taken;
+    if (taken > 0)
+        run->is_saved = 0;
 
     print_key(keys, code);
     if (times > 1)
