@@ -5,6 +5,8 @@
 #include <stdlib.h>
 #include <string.h>
 
+#include "blocks.h"
+
 enum { MOST_SHOWN = 20 };
 
 /* The file was admitted and the state is our own, so that no call has a reason to refuse. */
@@ -77,18 +79,17 @@ static int is_lost(const struct procedure *p, struct run *run)
     return lost;
 }
 
-/* A key may be lit and yet break the run: the prompt does not look at counts. */
+/* A key may be lit and yet break the run, since the prompt does not look at counts; the blocks then tell why. */
 static void explain_break(const struct procedure *p, const struct keys *keys, struct run *run, unsigned code)
 {
     const uint64_t lit = next_keys(p, run);
     printf("broken at event %zu.\n", run->length + 1);
-    if (lit >> code & 1) {
-        printf("The key was lit, but a repeat has too few or too many blocks for it.\n");
-    } else {
+    if (!(lit >> code & 1)) {
         printf("Lit was: ");
         print_keys(keys, lit);
         printf("\n");
     }
+    print_blocks(p, keys, run->state);
     if (is_lost(p, run))
         printf("The run was complete before this event, and it is not saved.\n");
     printf("Type new to begin anew.\n");
