@@ -13,6 +13,7 @@
 #include <stdlib.h>
 #include <string.h>
 
+#include "station/admission.h"
 #include "station/interrupt.h"
 #include "station/keys.h"
 #include "station/lines.h"
@@ -22,9 +23,9 @@
 #include "station/plain.h"
 #include "station/procedure.h"
 #include "station/record.h"
-#include "station/refusal.h"
 #include "station/run.h"
 #include "station/stored.h"
+#include "station/typed.h"
 
 enum status { WELL = 0, REFUSED = 1, UNABLE = 2, BY_SIGNAL = 128 };
 
@@ -174,7 +175,8 @@ static const struct command {
     {"keys", NONE, KEEPS_RUN, keys, "keys         the keys that are lit: those that can come next"},
     {"run", NONE, KEEPS_RUN, run, "run          the events so far"},
     {"new", NONE, DROPS_RUN, begin, "new          begin a new run"},
-    {"save", MAYBE, KEEPS_RUN, save, "save FILE    write, check and show the record of a complete run; FILE may be left out"},
+    {"save", MAYBE, KEEPS_RUN, save,
+     "save FILE    write, check and show the record of a complete run; FILE may be left out"},
     {"check", NEEDED, KEEPS_RUN, check, "check FILE   check and show a record that was saved"},
     {"show", NONE, KEEPS_RUN, show, "show         the procedure in its notation"},
     {"help", NONE, KEEPS_RUN, help, "help         this text"},
@@ -192,36 +194,6 @@ static void help(struct station *s, const char *nothing)
 }
 
 /* Events. */
-
-/* Reads 11, e11, 11*6 or e11*6, and says what is wrong otherwise. */
-static int read_event(const char *word, unsigned *code, size_t *times)
-{
-    const char *digits = word[0] == 'e' ? word + 1 : word;
-    char *behind;
-    const unsigned long number = strtoul(digits, &behind, 10);
-    unsigned long count = 1;
-    if (*digits < '0' || *digits > '9' || (*behind != '\0' && *behind != '*')) {
-        say_of(stdout, "\"", word, "\" is no event and no command. Type help for what there is.\n");
-        return 0;
-    }
-    if (number > SEQ_MOST_CODE) {
-        say_of(stdout, "There is no key ", word, ". ");
-        printf("Keys are 0 to %d.\n", SEQ_MOST_CODE);
-        return 0;
-    }
-    if (*behind == '*') {
-        const char *counted = behind + 1;
-        count = strtoul(counted, &behind, 10);
-        if (*counted < '0' || *counted > '9' || *behind != '\0' || count < 1 || count > SEQ_MOST_RUN) {
-            say_of(stdout, "\"", word, "\": behind the * comes a number ");
-            printf("from 1 to %d.\n", SEQ_MOST_RUN);
-            return 0;
-        }
-    }
-    *code = (unsigned)number;
-    *times = count;
-    return 1;
-}
 
 /* Takes the events of a line in turn, up to the first that is not understood or breaks the run. */
 static void take_events(struct station *s, char *word)
@@ -351,26 +323,6 @@ static int ended(struct station *s, const struct lines *lines, enum input input,
 
 /* The beginning. */
 
-static int is_admitted(struct station *s, const char *path)
-{
-    struct judgement given;
-    given.answer = seq_judge(s->procedure.bytes, s->procedure.length, &given.node, &given.kind, &given.code);
-    if (given.answer == SEQ_DONE || given.answer > SEQ_LAYOUT)
-        read_keys(&s->procedure, &s->keys);
-    if (given.answer == SEQ_DONE) {
-        say_of(stdout, "", path, ": admitted, ");
-        printf("%u node%s.\n", node_count(&s->procedure), node_count(&s->procedure) == 1 ? "" : "s");
-        print_text(&s->procedure);
-        return 1;
-    }
-    say_of(stdout, "", path, ": refused, ");
-    printf("answer %" PRIu32 ".\n", given.answer);
-    if (given.answer > SEQ_LAYOUT)
-        print_text(&s->procedure);
-    explain_refusal(&s->procedure, &s->keys, given);
-    return 0;
-}
-
 static int usage(const char *why, const char *word)
 {
     if (why != NULL)
@@ -394,7 +346,7 @@ static int work(const char *path, const char *script)
     }
     if (!load_procedure(path, &s.procedure))
         return UNABLE;
-    if (!is_admitted(&s, path))
+    if (!is_admitted(&s.procedure, &s.keys, path))
         return REFUSED;
     begin(&s, "");
     const enum input input = converse(&s, &lines, script != NULL);

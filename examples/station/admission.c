@@ -1,9 +1,15 @@
-#include "refusal.h"
+#include "admission.h"
 
+#include <inttypes.h>
 #include <stdio.h>
 #include <string.h>
 
 #include "notation.h"
+#include "plain.h"
+
+struct judgement {
+    uint32_t answer, node, kind, code;
+};
 
 static void explain_length(const struct procedure *p)
 {
@@ -111,7 +117,7 @@ static void explain_conflict(const struct procedure *p, const struct keys *keys,
     printf(" can come there in two ways, and no record could tell which:\n%s.\n", ways[given.kind]);
 }
 
-void explain_refusal(const struct procedure *p, const struct keys *keys, struct judgement given)
+static void explain_refusal(const struct procedure *p, const struct keys *keys, struct judgement given)
 {
     switch (given.answer) {
     case SEQ_FILE_LENGTH:
@@ -141,4 +147,24 @@ void explain_refusal(const struct procedure *p, const struct keys *keys, struct 
         printf("The library gives answer %u, which this station does not know.\n", given.answer);
         break;
     }
+}
+
+int is_admitted(const struct procedure *p, struct keys *keys, const char *path)
+{
+    struct judgement given;
+    given.answer = seq_judge(p->bytes, p->length, &given.node, &given.kind, &given.code);
+    if (given.answer == SEQ_DONE || given.answer > SEQ_LAYOUT)
+        read_keys(p, keys);
+    if (given.answer == SEQ_DONE) {
+        say_of(stdout, "", path, ": admitted, ");
+        printf("%u node%s.\n", node_count(p), node_count(p) == 1 ? "" : "s");
+        print_text(p);
+        return 1;
+    }
+    say_of(stdout, "", path, ": refused, ");
+    printf("answer %" PRIu32 ".\n", given.answer);
+    if (given.answer > SEQ_LAYOUT)
+        print_text(p);
+    explain_refusal(p, keys, given);
+    return 0;
 }
