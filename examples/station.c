@@ -338,7 +338,7 @@ static int usage(const char *why, const char *word)
 static int work(const char *path, const char *script)
 {
     static struct station s;
-    static struct lines lines; /* from standard input, descriptor 0 */
+    static struct lines lines; /* from standard input, descriptor 0, or a script, which stays open up to the end */
     const char *why;
     if (script != NULL && (lines.from = open_file(script, &why)) < 0) {
         say_why(stderr, "station: cannot read ", script, why);
