@@ -8,7 +8,6 @@
  * plain ASCII. The exit status is 0 if all went well, 1 if something was refused or not understood or a complete run
  * was not saved, 2 if the station could not begin or go on, and 128 and a signal's number if that interrupted it.
  */
-#include <inttypes.h>
 #include <stdio.h>
 #include <stdlib.h>
 #include <string.h>
@@ -62,7 +61,7 @@ static uint8_t *written_record(struct station *s, uint64_t *length)
         printf("Not saved: the run is unfinished. ");
         print_lit(&s->procedure, &s->keys, &s->run);
     } else {
-        printf("Not saved: seq_write gives answer %" PRIu32 ".\n", answer);
+        printf("Not saved: %s.\n", seq_answer_words(answer));
     }
     free(space);
     return NULL;

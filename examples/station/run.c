@@ -14,7 +14,8 @@ static void demand_done(const char *call, uint32_t answer)
 {
     if (answer == SEQ_DONE)
         return;
-    fprintf(stderr, "station: %s gives answer %" PRIu32 "; the archive and the station do not fit\n", call, answer);
+    fprintf(stderr, "station: %s gives answer %" PRIu32 " (%s); the archive and the station do not fit\n", call, answer,
+            seq_answer_words(answer));
     exit(2);
 }
 
