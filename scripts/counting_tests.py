@@ -1,7 +1,21 @@
 """Tests of how the gate counts its parts."""
+import contextlib
+import io
+import re
+import tempfile
+import types
 import unittest
+from pathlib import Path
 
 import gate
+from loading import load
+
+
+def cargo(passed, failed=0, ignored=0, filtered=0):
+    """What cargo prints of one test program."""
+    word, began = "FAILED" if failed else "ok", passed + failed + ignored
+    return (f"running {began} test{'' if began == 1 else 's'}\n\ntest result: {word}. {passed} passed; {failed} failed; "
+            f"{ignored} ignored; 0 measured; {filtered} filtered out; finished in 0.00s\n")
 
 
 class Counting(unittest.TestCase):
@@ -23,23 +37,114 @@ class Counting(unittest.TestCase):
                 gate.counted_by_comparison(text)
 
     def test_cargo_adds_up_its_programs(self):
-        self.assertEqual(gate.counted_by_cargo(
-            "test result: ok. 3 passed; 0 failed; 0 ignored;\nx\ntest result: FAILED. 4 passed; 2 failed; 0 ignored;\n"), (7, 2))
+        self.assertEqual(gate.counted_by_cargo(cargo(3) + "x\n" + cargo(4, failed=2)), (7, 2))
 
     def test_cargo_without_a_test(self):
-        for text in ("error: could not compile", "test result: ok. 0 passed; 0 failed; 5 ignored;\n"):
+        for text in ("error: could not compile", cargo(0)):
             with self.assertRaises(gate.Unfit):
                 gate.counted_by_cargo(text)
 
-    def test_rt_that_counts_less_than_the_listed_crates(self):
+    def test_a_cargo_test_that_was_ignored_or_left_out_has_failed(self):
+        self.assertEqual(gate.counted_by_cargo(cargo(3, ignored=2)), (3, 2))
+        self.assertEqual(gate.counted_by_cargo(cargo(0, ignored=5)), (0, 5))
+        self.assertEqual(gate.counted_by_cargo(cargo(3, filtered=1)), (3, 1))
+
+    def test_a_cargo_program_that_ends_before_its_result(self):
         with self.assertRaises(gate.Unfit):
-            gate.counted_by_rt("0 passed, 0 failed\n")
+            gate.counted_by_cargo(cargo(3) + "running 4 tests\n")
+
+    def test_words_that_must_come_last(self):
+        count = gate.counted_by_words("all is well")
+        self.assertEqual(count("a\nall is well\n"), (1, 0))
+        for text in ("", "all is well\nmore\n"):
+            with self.assertRaises(gate.Unfit):
+                count(text)
+
+
+class Tests(unittest.TestCase):
+    """How the gate's own tests are counted."""
+
+    def counted(self, **tests):
+        module = types.ModuleType("few_tests")
+        module.Few = type("Few", (unittest.TestCase,), tests)
+        with contextlib.redirect_stdout(io.StringIO()):
+            return load("gate-tests").counted([module])
+
+    def test_tests_that_pass_and_fail(self):
+        self.assertEqual(self.counted(test_a=lambda test: None, test_b=lambda test: test.fail()), (1, 1))
+
+    def test_a_test_that_is_left_out_or_expected_to_fail(self):
+        self.assertEqual(self.counted(test_a=unittest.skip("later")(lambda test: None)), (0, 1))
+        self.assertEqual(self.counted(test_a=unittest.expectedFailure(lambda test: test.fail())), (0, 1))
+
+    def test_a_file_without_a_test(self):
+        self.assertEqual(self.counted(), (0, 1))
+
+
+class Rt(unittest.TestCase):
+    """A tree of two crates with three edits, of which rt ci has to count each."""
+
+    def setUp(self):
+        folder = tempfile.TemporaryDirectory()
+        self.addCleanup(folder.cleanup)
+        self.top = Path(folder.name)
+        for edit in ("one/must-fail/a.edit", "one/must-fail/b.edit", "two/must-fail/a.edit"):
+            path = self.top / "crates" / edit
+            path.parent.mkdir(parents=True, exist_ok=True)
+            path.write_text("")
+        self.list_crates("# NAME: crates\none:\ntwo: one # both\n")
+
+    def list_crates(self, text):
+        (self.top / "crates.txt").write_text(text)
+
+    def test_every_crate_and_edit_is_counted(self):
+        self.assertEqual(gate.counted_by_rt("rt: ok\n5 passed, 0 failed\n", self.top), (5, 0))
+        self.assertEqual(gate.counted_by_rt("1 passed, 2 failed\n", self.top), (1, 2))
+
+    def test_one_is_not_counted(self):
+        for text in ("0 passed, 0 failed\n", "4 passed, 0 failed\n"):
+            with self.assertRaises(gate.Unfit):
+                gate.counted_by_rt(text, self.top)
+
+    def test_crates_that_are_not_listed(self):
+        for listed in ("", "# one:\n# two:\n", "one:\n"):
+            self.list_crates(listed)
+            with self.assertRaises(gate.Unfit):
+                gate.counted_by_rt("5 passed, 0 failed\n", self.top)
+
+
+class Parts(unittest.TestCase):
+    def outcome(self, command, count=gate.counted_by_verdict, seconds=60):
+        return gate.outcome("x", command, count, {}, gate.time.monotonic() + seconds)[:2]
 
     def test_a_missing_tool_and_a_failing_command(self):
-        later = gate.time.monotonic() + 60
-        self.assertEqual(gate.outcome("x", ["no-such-tool"], gate.counted_once, {}, later)[:2], (0, 1))
-        self.assertEqual(gate.outcome("x", ["false"], gate.counted_once, {}, later)[:2], (0, 1))
-        self.assertEqual(gate.outcome("x", ["true"], gate.counted_once, {}, later)[:2], (1, 0))
+        self.assertEqual(self.outcome(["no-such-tool"], gate.counted_once), (0, 1))
+        self.assertEqual(self.outcome(["false"], gate.counted_once), (0, 1))
+        self.assertEqual(self.outcome(["true"], gate.counted_once), (1, 0))
+
+    def test_a_missing_script_and_an_empty_one(self):
+        self.assertEqual(self.outcome(["python3", "scripts/no-such-script"]), (0, 1))
+        self.assertEqual(self.outcome(["python3", "/dev/null"]), (0, 1))
+
+    def test_a_part_that_did_nothing(self):
+        self.assertEqual(self.outcome(["echo", "0 passed, 0 failed"]), (0, 1))
+
+    def test_a_verdict_and_then_a_bad_end(self):
+        self.assertEqual(self.outcome(["sh", "-c", "echo 3 passed, 0 failed; exit 1"]), (3, 1))
+        self.assertEqual(self.outcome(["sh", "-c", "echo 3 passed, 0 failed; kill -9 $$"]), (3, 1))
+        self.assertEqual(self.outcome(["sh", "-c", "echo 3 passed, 0 failed; echo lost >&2"]), (0, 1))
+
+    def test_a_failure_and_then_a_good_end(self):
+        self.assertEqual(self.outcome(["echo", "3 passed, 2 failed"]), (3, 2))
 
     def test_time_that_is_up(self):
-        self.assertEqual(gate.outcome("x", ["sleep", "60"], gate.counted_once, {}, gate.time.monotonic())[:2], (0, 1))
+        self.assertEqual(self.outcome(["sleep", "60"], gate.counted_once, seconds=0), (0, 1))
+
+    def test_every_part_of_the_map_is_run(self):
+        page = (gate.TOP / "docs" / "ARCHITECTURE.md").read_text(encoding="utf-8")
+        section = page.partition("\n## The gate\n")[2].partition("\n## ")[0]
+        rows = [line.split("|")[1] for line in section.splitlines() if line.startswith("|")]
+        mapped = [command for row in rows for command in re.findall("`([^`]+)`", row)]
+        run = [" ".join(command) for _, command, _, _ in gate.parts()]
+        self.assertGreater(len(mapped), 0)
+        self.assertEqual([command for command in mapped if not any(command in line for line in run)], [])

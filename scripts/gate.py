@@ -3,6 +3,7 @@
 A part is a name, a command and a way to count what the command says it did. A part fails if its
 command is missing, does not end well, or did nothing. What each part printed is shown as it comes.
 """
+import codecs
 import os
 import re
 import selectors
@@ -24,7 +25,10 @@ VERDICT = re.compile(r"^(\d+) passed, (\d+) failed$")
 COMPARED = re.compile(r"^(\d+) compared, (\d+) differ$", re.M)
 # Fewer comparisons than these cover too little.
 LEAST_COMPARED = 20_000
-CARGO_RESULT = re.compile(r"^test result: \w+\. (\d+) passed; (\d+) failed;", re.M)
+STORED = "stored-cases: crates/answers holds what the second matcher makes"
+CARGO_BEGINS = re.compile(r"^running (\d+) tests?$", re.M)
+CARGO_RESULT = re.compile(r"^test result: \w+\. (\d+) passed; (\d+) failed; (\d+) ignored; (\d+) measured; "
+                          r"(\d+) filtered out;", re.M)
 
 
 class Unfit(Exception):
@@ -41,7 +45,7 @@ def run(name, command, env, until):
     child = subprocess.Popen(
         command, cwd=TOP, env=env, stdin=subprocess.DEVNULL, stdout=subprocess.PIPE,
         stderr=subprocess.STDOUT, start_new_session=True)
-    said = bytearray()
+    said, decoder = "", codecs.getincrementaldecoder("utf-8")("replace")
     with selectors.DefaultSelector() as ready:
         ready.register(child.stdout, selectors.EVENT_READ)
         while True:
@@ -56,10 +60,10 @@ def run(name, command, env, until):
             piece = os.read(child.stdout.fileno(), 65536)
             if not piece:
                 break
-            said += piece
-            sys.stdout.buffer.write(piece)
-            sys.stdout.flush()
-    return child.wait(), said.decode("utf-8", "replace")
+            text = decoder.decode(piece)
+            said += text
+            print(text, end="", flush=True)
+    return child.wait(), said
 
 
 def last_line(text):
@@ -72,6 +76,15 @@ def counted_once(text):
     return 1, 0
 
 
+def counted_by_words(words):
+    """A command that says no number, and these words where it has done its work: it is one test."""
+    def count(text):
+        if last_line(text) != words:
+            raise Unfit(f"its last line is not: {words}")
+        return 1, 0
+    return count
+
+
 def counted_by_verdict(text):
     """The numbers of a last line "N passed, M failed"."""
     found = VERDICT.match(last_line(text))
@@ -80,14 +93,15 @@ def counted_by_verdict(text):
     return int(found[1]), int(found[2])
 
 
-def counted_by_rt(text):
-    """The verdict of rt ci, which has to count each listed crate at least."""
+def counted_by_rt(text, top=TOP):
+    """The verdict of rt ci, which has to count every crate of the tree and every must-fail edit."""
     passed, failed = counted_by_verdict(text)
-    listed = len(listed_crates())
-    if listed == 0:
-        raise Unfit("crates.txt lists no crate")
-    if failed == 0 and passed < listed:
-        raise Unfit(f"it counted {passed} while crates.txt lists {listed} crates")
+    crates, edits = listed_crates(top), list(top.glob("crates/*/must-fail/*.edit"))
+    unlisted = {path.name for path in top.glob("crates/*") if path.is_dir()} - set(crates)
+    if unlisted:
+        raise Unfit(f"crates.txt does not list {', '.join(sorted(unlisted))}")
+    if failed == 0 and passed < len(crates) + len(edits):
+        raise Unfit(f"it counted {passed}, and there are {len(crates)} crates and {len(edits)} must-fail edits")
     return passed, failed
 
 
@@ -103,12 +117,16 @@ def counted_by_comparison(text):
 
 
 def counted_by_cargo(text):
-    """The sum over the test programs of one cargo package."""
-    results = CARGO_RESULT.findall(text)
-    passed, failed = sum(int(p) for p, _ in results), sum(int(f) for _, f in results)
-    if passed + failed == 0:
+    """The sum over the test programs of one cargo package. A test that was ignored or left out has failed."""
+    began = sum(map(int, CARGO_BEGINS.findall(text)))
+    results = [tuple(map(int, numbers)) for numbers in CARGO_RESULT.findall(text)]
+    if began == 0:
         raise Unfit("no test ran")
-    return passed, failed
+    passed, failed, ignored, measured, left_out = map(sum, zip((0, 0, 0, 0, 0), *results))
+    # A program that ends in the midst of a test, with status 0, says no result.
+    if passed + failed + ignored + measured != began:
+        raise Unfit(f"it began {began} tests, and told the result of {passed + failed + ignored + measured}")
+    return passed, failed + ignored + left_out
 
 
 def listed_crates(top=TOP):
@@ -124,7 +142,7 @@ def parts():
     yield "why each must-fail edit was refused", ["python3", "scripts/must-fail-logs"], counted_by_verdict, {}
     yield "what the page of promises cites", ["python3", "scripts/promises-page"], counted_by_verdict, {}
     yield "the program on files at the limits", ["python3", "scripts/program-cases"], counted_by_verdict, {}
-    yield "the stored cases, made anew", ["bash", "scripts/stored-cases", "--check"], counted_once, {}
+    yield "the stored cases, made anew", ["bash", "scripts/stored-cases", "--check"], counted_by_words(STORED), {}
     yield "the library beside the second matcher", ["bash", "scripts/compare"], counted_by_comparison, {}
     for manifest in sorted(TOP.glob("tests/*/Cargo.toml")):
         name = manifest.parent.name
@@ -159,6 +177,8 @@ def outcome(name, command, count, env, until):
         return 0, 1, str(reason)
     if status != 0 and failed == 0:
         return passed, 1, f"exit status {status}"
+    if passed + failed == 0:
+        return 0, 1, "it did nothing"
     return passed, failed, f"{failed} failed" if failed else ""
 
 
@@ -170,7 +190,7 @@ def main():
         began = time.monotonic()
         good, bad, why = outcome(name, command, count, env, until)
         passed, failed = passed + good, failed + bad
-        word = "FAILED" if bad else "ok" if good else "none"
+        word = "FAILED" if bad else "ok"
         lines.append(f"{word:6} {name}: {good} passed, {bad} failed, {seconds(began)}{': ' + why if why else ''}")
         print(lines[-1], flush=True)
     print("== summary")
