@@ -145,8 +145,8 @@ class Tables(Page):
         edits.mkdir()
         (edits / "a_word_lost.edit").write_text("")
         table = ("\n| tried | edit | crate |\n|---|---|---|\n"
-                 "| a lost word | `a_word_lost`, `all_lost` | record, meaning |\n")
-        self.assertEqual(self.faults(table), ["`all_lost` is no edit of record, meaning"])
+                 "| a lost word | `a_word_lost`, `all_lost` | record, meaning |\n| a lost list | | meaning |\n")
+        self.assertEqual(self.faults(table), ["`all_lost` is no edit of record, meaning", "no edit is named"])
 
 
 class OneOutcome(Page):
