@@ -126,6 +126,12 @@ class Parts(unittest.TestCase):
         self.assertEqual(self.outcome(["python3", "scripts/no-such-script"]), (0, 1))
         self.assertEqual(self.outcome(["python3", "/dev/null"]), (0, 1))
 
+    def test_no_script_of_ours_passes_by_saying_nothing(self):
+        for name, command, count, _ in gate.parts():
+            if any(word.startswith("scripts/") for word in command):
+                with self.subTest(name=name), self.assertRaises(gate.Unfit):
+                    count("")
+
     def test_a_part_that_did_nothing(self):
         self.assertEqual(self.outcome(["echo", "0 passed, 0 failed"]), (0, 1))
 
