@@ -45,8 +45,8 @@ class Count:
         for line in child.stdout:
             said += line.decode(errors="replace")
             print(line.decode(errors="replace"), end="", flush=True)
-        status, verdict = child.wait(timeout=MOST_SECONDS), VERDICT.search(said)
-        passed, failed = (int(verdict[1]), int(verdict[2])) if verdict else (0, 1)
+        status, verdicts = child.wait(timeout=MOST_SECONDS), VERDICT.findall(said)
+        passed, failed = map(int, verdicts[-1]) if verdicts else (0, 1)
         self.add(passed, failed + (status != 0 and failed == 0))
 
     def end(self):
