@@ -6,7 +6,7 @@ use native.Mathlib.Decide.{decLe}
 use native.Mathlib.Nat.{le-antisymm, lt-of-lt-of-le, zero-div}
 use native.Mathlib.Omega.{arith}
 use lib.Pow.{pow-lt, pow-mono}
-use Rattle.codes.specs.Codes.{WithinLimit, Codes, Has, Least, Shared, both, either, limit, nothing, only}
+use Rattle.codes.specs.Codes.{WithinLimit, Codes, Has, Shared, both, either, limit, nothing, only}
 use Rattle.meaning.proofs.general.Digits.{digit-of-and, digit-of-or, digit-of-power, digit-past, digit-under-power}
 use Rattle.meaning.proofs.general.CodeSets.{has-or-not}
 
@@ -53,11 +53,3 @@ has-below s c w h = below (decLe limit c)
     below : Dec (limit ≤ c) → c < limit
     below (yes l) = absurd (omega (arith, digit-past s c (lt-of-lt-of-le w (pow-mono l))))
     below (no l) = omega arith
-
--- ---- the lowest code of a kind
-
-pub least-unique : {P : ℕ → Type 0} {c d : ℕ} → Least P c → Least P d → c ≡ d
-least-unique {c = c} {d = d} p q = le-antisymm (p .lowest d (q .holds)) (q .lowest c (p .holds))
-
-pub least-iff : {P Q : ℕ → Type 0} {c : ℕ} → ((d : ℕ) → P d ↔ Q d) → Least P c → Least Q c
-least-iff {c = c} e p = record { holds = e c .0 (p .holds); lowest = λ d q. p .lowest d (e d .1 q) }

@@ -5,7 +5,7 @@ use Prim.Native.Nat.{ℕ, zero, suc, _/_, _%_, _≤_, _<_, suc-le-suc, zero-le}
 use native.Mathlib.Nat.{not-suc-le-zero, le-of-suc-le-suc, zero-lt-suc}
 use native.Mathlib.Omega.{arith}
 use lib.Count.{trailingZeros, under}
-use Rattle.codes.specs.Codes.{WithinLimit, Has, Least, limit}
+use Rattle.codes.specs.Codes.{WithinLimit, Has, Least, LowestIn, limit}
 use Rattle.meaning.proofs.general.Digits.{digit-lowest, digit-up}
 use Rattle.codes.proofs.Members.{has-below}
 
@@ -51,7 +51,5 @@ unfolding trailingZeros
 found zero s = inr (λ c l. absurd (not-suc-le-zero l), refl)
 found (suc k) s = from-half k s (trailingZeros k (s / 2)) (s % 2) refl (found k (s / 2))
 
-pub trailing-lowest : (s : ℕ) → WithinLimit s
-    → (Least (Has s) (trailingZeros limit s) × (trailingZeros limit s < limit))
-    ⊎ (((c : ℕ) → ¬ Has s c) × (trailingZeros limit s ≡ limit))
+pub trailing-lowest : (s : ℕ) → WithinLimit s → LowestIn s (trailingZeros limit s)
 trailing-lowest s w = ⊎-elim inl (λ p. inr (λ c h. p .0 c (has-below s c w h) h, p .1)) (found limit s)

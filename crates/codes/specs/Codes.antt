@@ -1,6 +1,8 @@
 -- Sets of codes: what it is to be in one, and the sets that the functions make. A caller goes by the laws of membership
 -- (`proofs/Members.antt`) and opens nothing here, so that how a set is held, as the bits of a number, is known to this crate alone. A
 -- model of our code, and no promise.
+use mathlib.Core.Logic.{_⊎_}
+use mathlib.Core.Path.{_≡_}
 use Prim.Native.Nat.{ℕ, _^_, _≤_, _<_}
 use lib.Bits.{bitAnd, bitOr}
 unfoldable pub use Rattle.meaning.specs.Codes.{Has}
@@ -25,6 +27,10 @@ WithinLimit s = s < 2 ^ limit
 pub record Least (P : ℕ → Type 0) (c : ℕ) : Type 0 where
   pub holds : P c
   pub lowest : (d : ℕ) → P d → c ≤ d
+
+-- Code c is the lowest of the set s, or the limit where the set has no code.
+abbrev pub LowestIn : Codes → ℕ → Type 0
+LowestIn s c = (Least (Has s) c × (c < limit)) ⊎ (((d : ℕ) → ¬ Has s d) × (c ≡ limit))
 
 -- The set with no code.
 unfoldable pub nothing : Codes

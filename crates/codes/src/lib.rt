@@ -1,21 +1,13 @@
 // Sets of codes, as 64 bits: code c is in a set where bit c is 1.
 // A contract says which codes are in the result, and then names the set (`specs/Codes.antt`).
-ghost use mathlib.Core.Bool.{true};
+ghost use mathlib.Core.Bool.{So, true};
 ghost use mathlib.Core.Logic.{_↔_, _⊎_};
 ghost use mathlib.Core.Path.{_≡_};
 ghost use Prim.Native.Nat.{ℕ, _<_};
-ghost use Rattle.codes.specs.Codes.{Has, Least, Shared, both, either, limit, nothing, only};
+ghost use Rattle.codes.specs.Codes.{Has, LowestIn, Shared, both, either, limit, nothing, only};
 
 // Every code is below this.
 pub const LIMIT: u32 = 64;
-
-// What two sets share.
-pub enum Overlap {
-    // No code.
-    Apart,
-    // Some codes, of which this is the lowest.
-    At(u32),
-}
 
 // The set with no code.
 pub fn none() -> u64
@@ -63,20 +55,14 @@ pub fn has(s: u64, code: u32) -> bool
 
 // The lowest code of the set, or LIMIT where it has none.
 pub fn lowest(s: u64) -> u32
-    ensures { λ r. ⌜ (Least (Has s) r × (r < limit)) ⊎ (((c : ℕ) → ¬ Has s c) × (r ≡ limit)) ⌝ }
+    ensures { λ r. ⌜ LowestIn s r ⌝ }
 {
     u64::trailing_zeros(s)
 }
 
-// Whether the sets share a code, and the lowest that they share.
-pub fn lowest_shared(a: u64, b: u64) -> Overlap
-    ensures { λ r. ⌜ (r ≡ Overlap.Apart) ↔ ((c : ℕ) → ¬ Shared a b c) ⌝ }
-    ensures { λ r. ⌜ ((c : ℕ) → (r ≡ Overlap.At c) ↔ Least (Shared a b) c) ⌝ }
+// Whether the set has a code.
+pub fn any(s: u64) -> bool
+    ensures { λ r. ⌜ So r ↔ ((c : ℕ) × Has s c) ⌝ }
 {
-    let code = lowest(shared(a, b));
-    if code < LIMIT {
-        Overlap::At(code)
-    } else {
-        Overlap::Apart
-    }
+    lowest(s) < LIMIT
 }

@@ -14,7 +14,15 @@ pub fn follow(file: &[u8], state: &mut [u8], events: &[u8]) -> FollowAnswer
     let mut starts = [0u16; 512];
     let mut nulls = [false; 512];
     let mut repeats = [0u16; 32];
-    match judge::admit(file, &mut nodes, &mut starts, &mut nulls, &mut repeats) {
+    let mut firsts = [0u64; 512];
+    match judge::admit(
+        file,
+        &mut nodes,
+        &mut starts,
+        &mut nulls,
+        &mut repeats,
+        &mut firsts,
+    ) {
         Admission::Refused(r) => FollowAnswer::Refused(r),
         Admission::Nodes(n, r) => {
             batch::go_on(&nodes, &starts, &nulls, &repeats, n, r, state, events)

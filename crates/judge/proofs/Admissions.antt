@@ -1,53 +1,77 @@
--- From what reading a file gave to its admission, and from that to Judge's answer. Assumes nothing.
+-- From what reading a file gave and what was found in it to its admission, and from that to Judge's answer. Assumes nothing.
 use mathlib.Core.Bool.{Bool}
 use mathlib.Core.List.{List}
+use mathlib.Core.Logic.{⊎-elim}
 use mathlib.Core.Path.{_≡_, subst}
-use Prim.Native.Nat.{ℕ, _-_, _≤_}
+use Prim.Native.Nat.{ℕ, _<_}
+use native.Mathlib.Omega.{arith}
+use Rattle.codes.specs.Codes.{Least, LowestIn, limit}
 use Rattle.meaning.specs.declared.JudgeAnswer.the-variants as answer
 use Rattle.meaning.specs.declared.Refusal.{Refusal}
 use Rattle.meaning.specs.declared.Refusal.the-variants.{Conflict}
-use Rattle.meaning.specs.File.{malformed, conflicting}
+use Rattle.meaning.specs.Codes.{Has}
+use Rattle.meaning.specs.Conflict.{ConflictAt}
+use Rattle.meaning.specs.Expr.{Expr}
+use Rattle.meaning.specs.File.{Barred, malformed, conflicting}
 use Rattle.meaning.specs.Promises.{Judges}
+use Rattle.meaning.specs.Sets.{First}
+use Rattle.meaning.proofs.determinism.Diverge.{strong-iff-no-conflict}
+use Rattle.meaning.proofs.file.Files.{holds-bounded}
 use Rattle.procedure.specs.Entry.{held}
-use Rattle.procedure.specs.Listing.{OneOf}
+use Rattle.procedure.specs.Listing.{Listing}
 use Rattle.procedure.specs.Opening.{Filled, Opens}
 use Rattle.procedure.specs.declared.Opened.{Opened}
 use Rattle.procedure.specs.declared.Opened.the-variants as opened
+use Rattle.sets.specs.Lowest.{Lowest}
+use Rattle.sets.specs.Tables.{TellsSets}
+use Rattle.sets.specs.declared.conflict.Found.{Found}
 use Rattle.judge.specs.Admission.{Admits}
-use Rattle.judge.specs.Sets.{SetsAt}
 use Rattle.judge.specs.declared.Admission.{Admission}
 use Rattle.judge.specs.declared.Admission.the-variants as admission
-use Rattle.judge.specs.declared.conflict.Found.the-variants.{Nothing, At}
-use Rattle.judge.specs.declared.sets.PartSets.{PartSets}
-use Rattle.judge.proofs.Roots.{root-ready, found-nothing, found-lowest}
 
 module _ (f nodes starts : List ℕ) (nulls : List Bool) (repeats : List ℕ) where
-  -- the file was read as n nodes, r of them repeats
+  -- the file was read as n nodes, r of them repeats, and x was found in them
   module _ (o : Opened) (n r : ℕ) (told : Opens f nodes starts nulls repeats o) (same : o ≡ opened.Nodes n r) where
-    filled : Filled f nodes starts nulls repeats n r
+    pub filled : Filled f nodes starts nulls repeats n r
     filled = subst (Opens f nodes starts nulls repeats) same told
 
-    pub ready : (1 ≤ n) × OneOf nodes (n - 1)
-    ready = root-ready filled
+    module _ (x : Found) (code : ℕ) (found : (e : Expr) → Listing nodes n e → Lowest (ConflictAt 0 e) x) (looked : LowestIn (x .shared) code) where
+      lowest : Lowest (ConflictAt 0 (filled .expr)) x
+      lowest = found (filled .expr) (filled .tables .listing)
 
-    pub admits-nodes : (x : PartSets) → SetsAt (held nodes) (n - 1) x → x .conflict ≡ Nothing → Admits f nodes starts nulls repeats (admission.Nodes n r)
-    admits-nodes x h none = record { filled = filled; admitted = record { holds = filled .holds; strong = found-nothing filled x h none } }
+      -- no code, no conflict
+      pub admits-nodes : (firsts : List ℕ) → ¬ (code < limit) → TellsSets First (held nodes) firsts n → Admits f nodes starts nulls repeats firsts (admission.Nodes n r)
+      admits-nodes firsts none begun =
+          let free : (i k c : ℕ) → ¬ ConflictAt 0 (filled .expr) i k c = λ i k c w.
+          let d = lowest .met i k c w in ⊎-elim (λ l. none (l .1)) (λ l. l .0 (d .0) (d .1)) looked in
+          record {
+            filled = filled;
+            admitted = record { holds = filled .holds; strong = strong-iff-no-conflict (filled .expr) (holds-bounded (filled .holds)) .1 free };
+            beginnings = begun;
+          }
 
-    pub admits-not : (x : PartSets) (i k c : ℕ) → SetsAt (held nodes) (n - 1) x → x .conflict ≡ At i k c
-        → Admits f nodes starts nulls repeats (admission.Refused (Conflict i k c))
-    admits-not x i k c h found = conflicting (filled .expr) i k c (filled .holds) (found-lowest filled x i k c h found)
+      -- and with one the lowest is named
+      pub admits-not : code < limit → Barred f (Conflict (x .node) (x .kind) code)
+      admits-not some =
+          let least : Least (Has (x .shared)) code = ⊎-elim (λ l. l .0) (λ l. let h = l .1 in absurd (omega arith)) looked in
+          conflicting (filled .expr) (x .node) (x .kind) code (filled .holds) (record {
+            there = lowest .shares code .0 (least .holds);
+            lowest-node = lowest .lowest-node;
+            lowest-kind = lowest .lowest-kind;
+            lowest-code = λ d w. least .lowest d (lowest .shares d .1 w);
+          })
 
   -- it was refused
-  pub admits-neither : (o : Opened) (r : Refusal) → Opens f nodes starts nulls repeats o → o ≡ opened.Refused r
-      → Admits f nodes starts nulls repeats (admission.Refused r)
+  pub admits-neither : (o : Opened) (r : Refusal) → Opens f nodes starts nulls repeats o → o ≡ opened.Refused r → Barred f r
   admits-neither o r told same = malformed (subst (Opens f nodes starts nulls repeats) same told)
 
-  -- ---- the answer of Judge
+-- ---- the answer of Judge
 
-  pub judges-admitted : (a : Admission) (n r : ℕ) → Admits f nodes starts nulls repeats a → a ≡ admission.Nodes n r → Judges f answer.Admitted
+module _ (f nodes starts : List ℕ) (nulls : List Bool) (repeats firsts : List ℕ) where
+  pub judges-admitted : (a : Admission) (n r : ℕ) → Admits f nodes starts nulls repeats firsts a → a ≡ admission.Nodes n r → Judges f answer.Admitted
   judges-admitted a n r told same =
-      let p = subst (Admits f nodes starts nulls repeats) same told in
+      let p = subst (Admits f nodes starts nulls repeats firsts) same told in
       Judges.admitted (p .filled .expr) (p .admitted)
 
-  pub judges-refused : (a : Admission) (r : Refusal) → Admits f nodes starts nulls repeats a → a ≡ admission.Refused r → Judges f (answer.Refused r)
-  judges-refused a r told same = Judges.refused r (subst (Admits f nodes starts nulls repeats) same told)
+  pub judges-refused : (a : Admission) (r : Refusal) → Admits f nodes starts nulls repeats firsts a → a ≡ admission.Refused r → Judges f (answer.Refused r)
+  judges-refused a r told same = Judges.refused r (subst (Admits f nodes starts nulls repeats firsts) same told)

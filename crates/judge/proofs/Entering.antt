@@ -11,13 +11,13 @@ use Rattle.judge.specs.Admission.{Admits, Entered}
 use Rattle.judge.specs.declared.Admission.{Admission}
 use Rattle.judge.specs.declared.Admission.the-variants as admission
 
-module _ (f nodes starts : List ℕ) (nulls : List Bool) (list : List ℕ) (a : Admission) (told : Admits f nodes starts nulls list a) where
+module _ (f nodes starts : List ℕ) (nulls : List Bool) (list firsts : List ℕ) (a : Admission) (told : Admits f nodes starts nulls list firsts a) where
   pub barred : (r : Refusal) → a ≡ admission.Refused r → Barred f r
-  barred r same = subst (Admits f nodes starts nulls list) same told
+  barred r same = subst (Admits f nodes starts nulls list firsts) same told
 
   module _ (n r : ℕ) (same : a ≡ admission.Nodes n r) where
-    pub entered : Entered f nodes starts nulls list n r
-    entered = subst (Admits f nodes starts nulls list) same told
+    pub entered : Entered f nodes starts nulls list firsts n r
+    entered = subst (Admits f nodes starts nulls list firsts) same told
 
     pub entered-tables : (e : Expr) × Tables nodes starts nulls list n r e
     entered-tables = (entered .filled .expr, entered .filled .tables)

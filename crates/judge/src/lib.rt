@@ -1,13 +1,9 @@
 // The judgement of a procedure file: admitted, or refused with 1 to 7.
 ghost use Rattle.meaning.specs.Promises.{Judges};
 ghost use Rattle.judge.specs.Admission.{Admits};
-use conflict::Found;
 use meaning::JudgeAnswer;
 use meaning::Refusal;
 use procedure::Opened;
-
-pub mod conflict; // conflict.rt: the lowest of some conflicts
-pub mod sets; // sets.rt: first, after and the lowest conflict of a part
 
 // What becomes of a file.
 pub enum Admission {
@@ -17,26 +13,28 @@ pub enum Admission {
     Refused(Refusal),
 }
 
-// The file's nodes as entries with their tables, as `procedure::read` hands them out, where it is admitted. What stands in the tables
-// past these is not said, nor what stands in them where the file is refused.
+// The file's nodes as entries with their tables, as `procedure::read` hands them out, and first of each part, where it is admitted. What
+// stands in the tables past these is not said, nor what stands in them where the file is refused.
 pub fn admit(
     file: &[u8],
     nodes: &mut [u64; 512],
     starts: &mut [u16; 512],
     nulls: &mut [bool; 512],
     repeats: &mut [u16; 32],
+    firsts: &mut [u64; 512],
 ) -> Admission
-    ensures { λ r. ⌜ Admits (now (file .entry)) (now (nodes .exit)) (now (starts .exit)) (now (nulls .exit)) (now (repeats .exit)) r ⌝ }
+    ensures { λ r. ⌜ Admits (now (file .entry)) (now (nodes .exit)) (now (starts .exit)) (now (nulls .exit)) (now (repeats .exit)) (now (firsts .exit)) r ⌝ }
 {
     match procedure::read(file, nodes, starts, nulls, repeats) {
         Opened::Refused(r) => Admission::Refused(r),
         Opened::Nodes(n, count) => {
-            let root = sets::sets_of(nodes, n - 1);
-            let found = root.conflict;
-            match found {
-                Found::Nothing => Admission::Nodes(n, count),
-                Found::At(i, k, c) => Admission::Refused(Refusal::Conflict(i, k, c)),
+            let mut afters = [0u64; 512];
+            let found = sets::fill_sets(nodes, nulls, firsts, &mut afters, n);
+            let code = codes::lowest(found.shared);
+            if code < codes::LIMIT {
+                return Admission::Refused(Refusal::Conflict(found.node, found.kind, code));
             }
+            Admission::Nodes(n, count)
         }
     }
 }
@@ -49,7 +47,15 @@ pub fn judge(file: &[u8]) -> JudgeAnswer
     let mut starts = [0u16; 512];
     let mut nulls = [false; 512];
     let mut repeats = [0u16; 32];
-    match admit(file, &mut nodes, &mut starts, &mut nulls, &mut repeats) {
+    let mut firsts = [0u64; 512];
+    match admit(
+        file,
+        &mut nodes,
+        &mut starts,
+        &mut nulls,
+        &mut repeats,
+        &mut firsts,
+    ) {
         Admission::Nodes(_, _) => JudgeAnswer::Admitted,
         Admission::Refused(r) => JudgeAnswer::Refused(r),
     }

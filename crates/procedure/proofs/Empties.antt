@@ -23,7 +23,7 @@ zero-test (suc n) = ne-eqb (suc n) 0 (λ e. omega arith)
 module _ (g : ℕ → Node) (nulls : List Bool) (i kind : ℕ) (told : kind ≡ kindOf (g i)) where
   pub null-leaf : kind < 2 → NullAt g i (eqb kind 0)
   unfolding NullAt
-  null-leaf k = λ s. at-leaf g s i kind told (λ e. eqb kind 0 ≡ nullable e) k (λ h z. eq-eqb kind 0 z) (λ c h z. ne-eqb kind 0 (λ e. omega arith))
+  null-leaf k = λ s. at-leaf g s i kind told (λ e. eqb kind 0 ≡ nullable e) k (λ h z. eq-eqb kind 0 z) (λ c h z d. ne-eqb kind 0 (λ e. omega arith))
 
   module _ (known : TellsNulls g nulls i) (some : 1 ≤ i) where
     pub null-repeat : (lower : ℕ) → lower ≡ lowerOf (g i) → kind ≡ 4 → NullAt g i (eqb lower 0 || getD nulls (i - 1) false)

@@ -1,12 +1,13 @@
 -- From the entry of a node to the part that stands there: its kind and its children. Assumes nothing.
-use mathlib.Core.Path.{_≡_, sym, ap, subst, _∙_}
+use mathlib.Core.Path.{_≡_, refl, sym, ap, subst, _∙_}
+use mathlib.Core.Logic.{inl, inr}
 use Prim.Native.Nat.{ℕ, _+_, _-_, _≤_, _<_}
 use native.Mathlib.Decide.{decLt}
 use native.Mathlib.Omega.{arith}
-use Rattle.meaning.specs.Expr.{Expr, empty, event, choice, sequence, repeat, size, root, Upper}
+use Rattle.meaning.specs.Expr.{Expr, empty, event, choice, sequence, repeat, size, root, Upper, Part}
 use Rattle.meaning.specs.Node.{Node, node, Stands, InOrder, bound}
 use Rattle.meaning.proofs.expressions.Parts.{root-size}
-use Rattle.procedure.specs.Entry.{kindOf, leftOf, lowerOf, upperOf}
+use Rattle.procedure.specs.Entry.{codeOf, kindOf, leftOf, lowerOf, upperOf}
 use Rattle.procedure.specs.Listing.{Spans}
 
 -- ---- the kind
@@ -51,12 +52,13 @@ pair g s i left a b k y told p q e h =
 
 -- what holds of a node of a kind holds of every part that stands there with it
 module _ (g : ℕ → Node) (s i kind : ℕ) (told : kind ≡ kindOf (g i)) (C : Expr → Type 0) where
-  pub at-leaf : kind < 2 → (i ≡ s → kind ≡ 0 → C empty) → ((c : ℕ) → i ≡ s → kind ≡ 1 → C (event c)) → (e : Expr) → Stands g s e → root s e ≡ i → C e
+  pub at-leaf : kind < 2 → (i ≡ s → kind ≡ 0 → C empty) → ((c : ℕ) → i ≡ s → kind ≡ 1 → codeOf (g i) ≡ c → C (event c))
+      → (e : Expr) → Stands g s e → root s e ≡ i → C e
   at-leaf k a b e p h = go e p h (told ∙ standing-kind g i s e p h)
     where
       go : (e : Expr) → Stands g s e → root s e ≡ i → kind ≡ kindNumber e → C e
       go empty p h m = a (sym h) m
-      go (event c) p h m = b c (sym h) m
+      go (event c) p h m = b c (sym h) m (ap (λ (j : ℕ). codeOf (g j)) (sym h) ∙ ap codeOf p)
       go (choice l r) p h m = absurd (omega arith)
       go (sequence l r) p h m = absurd (omega arith)
       go (repeat d lower upper) p h m = absurd (omega arith)
@@ -151,16 +153,27 @@ by-place {C} j m n a b c = first (decLt j m)
     first (yes l) = a l
     first (no l) = second (omega arith) (decLt j n)
 
--- every node of a part is in order
+-- a part of which P holds stands at node j
+abbrev pub StandsWith : (ℕ → Node) → (Expr → Type 0) → ℕ → Type 0
+StandsWith g P j = (t : ℕ) × (p : Expr) × P p × Stands g t p × (root t p ≡ j)
+
+stands-as : {g : ℕ → Node} {P Q : Expr → Type 0} {j : ℕ} → ((p : Expr) → P p → Q p) → StandsWith g P j → StandsWith g Q j
+stands-as f w = (w .0, w .1, f (w .1) (w .2), w .3, w .4)
+
+-- every node of a part has one of its parts, which stands there
+pub inner-part : (g : ℕ → Node) (s : ℕ) (e : Expr) → Stands g s e → (j : ℕ) → s ≤ j → j < s + size e → StandsWith g (Part s e j) j
+inner-part g s empty st j a b = (s, empty, (omega arith, refl), st, omega arith)
+inner-part g s (event c) st j a b = (s, event c, (omega arith, refl), st, omega arith)
+inner-part g s (choice l r) st j a b =
+    by-place j (s + size l) (s + size l + size r) (λ h. stands-as (λ p. inl) (inner-part g s l (st .0) j a h))
+    (λ h k. stands-as (λ p w. inr (inl w)) (inner-part g (s + size l) r (st .1) j h k)) (λ h. (s, choice l r, inr (inr (omega arith, refl)), st, omega arith))
+inner-part g s (sequence l r) st j a b =
+    by-place j (s + size l) (s + size l + size r) (λ h. stands-as (λ p. inl) (inner-part g s l (st .0) j a h))
+    (λ h k. stands-as (λ p w. inr (inl w)) (inner-part g (s + size l) r (st .1) j h k)) (λ h. (s, sequence l r, inr (inr (omega arith, refl)), st, omega arith))
+inner-part g s (repeat d lower upper) st j a b =
+    by-place j (s + size d) (s + size d) (λ h. stands-as (λ p. inl) (inner-part g s d (st .0) j a h)) (λ h k. absurd (omega arith))
+    (λ h. (s, repeat d lower upper, inr (omega arith, refl), st, omega arith))
+
+-- so it is in order
 pub inner-order : (g : ℕ → Node) (s : ℕ) (e : Expr) → Stands g s e → (j : ℕ) → s ≤ j → j < s + size e → InOrder g j
-inner-order g s empty p j a b = (s, empty, p, omega arith)
-inner-order g s (event c) p j a b = (s, event c, p, omega arith)
-inner-order g s (choice l r) p j a b =
-    by-place j (s + size l) (s + size l + size r) (λ h. inner-order g s l (p .0) j a h) (λ h k. inner-order g (s + size l) r (p .1) j h k)
-    (λ h. (s, choice l r, p, omega arith))
-inner-order g s (sequence l r) p j a b =
-    by-place j (s + size l) (s + size l + size r) (λ h. inner-order g s l (p .0) j a h) (λ h k. inner-order g (s + size l) r (p .1) j h k)
-    (λ h. (s, sequence l r, p, omega arith))
-inner-order g s (repeat d lower upper) p j a b =
-    by-place j (s + size d) (s + size d) (λ h. inner-order g s d (p .0) j a h) (λ h k. absurd (omega arith))
-    (λ h. (s, repeat d lower upper, p, omega arith))
+inner-order g s e st j a b = let w = inner-part g s e st j a b in (w .0, w .1, w .3, w .4)

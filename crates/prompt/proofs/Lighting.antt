@@ -6,9 +6,11 @@ use mathlib.Core.List.{List}
 use Prim.Native.Nat.{ℕ, suc, _+_, _-_, _≤_, _<_}
 use native.Mathlib.Decide.{decLe}
 use native.Mathlib.Omega.{arith}
+use lib.ListN.{getD}
 use Rattle.meaning.specs.Codes.{Has}
 use Rattle.meaning.specs.Expr.{Expr, event, Part}
 use Rattle.meaning.specs.Promises.{Lights}
+use Rattle.meaning.specs.Sets.{First}
 use Rattle.meaning.specs.theory.Near.{Near}
 use Rattle.meaning.specs.theory.Places.{Place, nodeOf}
 use Rattle.meaning.proofs.places.Directly.{part-place}
@@ -17,11 +19,11 @@ use Rattle.meaning.proofs.expressions.FirstWorded.{first-iff-worded}
 use Rattle.meaning.proofs.places.Loosened.{lights-iff-near}
 use Rattle.meaning.proofs.expressions.Parts.{root-size, part-within}
 use Rattle.procedure.specs.Entry.{held, kindOf, codeOf}
-use Rattle.judge.specs.Sets.{SetsAt}
-use Rattle.judge.specs.declared.sets.PartSets.{PartSets}
+use Rattle.sets.specs.Tables.{TellsSets}
+use Rattle.sets.proofs.Tables.{set-of-part}
 use Rattle.plan.specs.Plan.{Plans}
 use Rattle.states.proofs.Readiness.{listing-bounded}
-use Rattle.prompt.specs.Near.{TellsNear, CodeNear, CodesNear, StartLit, LitAt}
+use Rattle.prompt.specs.Near.{TellsNear, CodeNear, CodesNear, LitAt}
 use Rattle.prompt.proofs.EventNodes.{record-event}
 
 -- ---- one node
@@ -98,19 +100,18 @@ lit-after {nodes} {starts} {nulls} {plan} {n} {p} set l k near = record { holds 
               there .1 (f .0, omega (arith, within .1, pl .listing .sized), f .1, f .2),
         )
 
-pub lit-at-start : {nodes starts : List ℕ} {nulls : List Bool} {plan : List ℕ} {n set : ℕ} → StartLit nodes n set → LitAt nodes starts nulls plan n 0 set
-lit-at-start start = record { holds = λ e pl. start .holds e (pl .listing) }
-
 pub lit-as : {nodes starts : List ℕ} {nulls : List Bool} {plan : List ℕ} {n i node set : ℕ} → node ≡ i → LitAt nodes starts nulls plan n i set → LitAt nodes starts nulls plan n node set
 lit-as {nodes} {starts} {nulls} {plan} {n} {i} {node} {set} same w = subst (λ (j : ℕ). LitAt nodes starts nulls plan n j set) (sym same) w
 
 -- ---- first of the root
 
-pub first-lit : (nodes : List ℕ) (n : ℕ) (x : PartSets) → SetsAt (held nodes) (n - 1) x → StartLit nodes n (x .first)
-unfolding SetsAt
-first-lit nodes n x sets = record {
+pub lit-at-start : (nodes starts : List ℕ) (nulls : List Bool) (firsts plan : List ℕ) (n : ℕ) → TellsSets First (held nodes) firsts n
+    → LitAt nodes starts nulls plan n 0 (getD firsts (n - 1) 0)
+lit-at-start nodes starts nulls firsts plan n told = record {
   holds =
-      λ e l c.
+      λ e pl c.
       let last = root-size 0 e in
-      Iff·trans (sets 0 e (l .stands) (omega (arith, l .sized)) .firsts c) (first-iff-worded e (listing-bounded l) c);
+      let here = pl .listing .sized in
+      Iff·trans (set-of-part First (held nodes) firsts n (n - 1) 0 e told (omega arith) (pl .listing .stands) (omega arith) c)
+      (first-iff-worded e (listing-bounded (pl .listing)) c);
 }

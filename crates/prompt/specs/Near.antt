@@ -14,7 +14,6 @@ use Rattle.meaning.specs.Promises.{Lights}
 use Rattle.meaning.specs.theory.Near.{Near}
 use Rattle.meaning.specs.theory.Places.{Place, nodeOf}
 use Rattle.procedure.specs.Entry.{held, kindOf, upperOf}
-use Rattle.procedure.specs.Listing.{Listing}
 use Rattle.plan.specs.Plan.{Plans, beginsOf}
 
 -- the way may turn at the node: at a repeat only where it may have a second block
@@ -41,10 +40,6 @@ pub record CodeNear (nodes starts : List ℕ) (nulls : List Bool) (plan : List �
 pub record CodesNear (nodes starts : List ℕ) (nulls : List Bool) (plan : List ℕ) (n p i set : ℕ) : Type 0 where
   pub holds : (e : Expr) (t : Place e) → Plans nodes starts nulls plan n e → nodeOf 0 e t ≡ p
       → (c : ℕ) → Has set c ↔ ((q : ℕ) × (q < i) × Near 0 e t q × Part 0 e q (event c))
-
--- the set has the codes that are lit at the start, of whatever expression the n nodes are
-pub record StartLit (nodes : List ℕ) (n set : ℕ) : Type 0 where
-  pub holds : (e : Expr) → Listing nodes n e → (c : ℕ) → Has set c ↔ Lights e 0 c
 
 -- the set has the codes that are lit at the node reached, of whatever expression the plan is
 pub record LitAt (nodes starts : List ℕ) (nulls : List Bool) (plan : List ℕ) (n node set : ℕ) : Type 0 where

@@ -14,8 +14,18 @@ pub fn prompt(file: &[u8], state: &[u8]) -> PromptAnswer
     let mut starts = [0u16; 512];
     let mut nulls = [false; 512];
     let mut repeats = [0u16; 32];
-    match judge::admit(file, &mut nodes, &mut starts, &mut nulls, &mut repeats) {
+    let mut firsts = [0u64; 512];
+    match judge::admit(
+        file,
+        &mut nodes,
+        &mut starts,
+        &mut nulls,
+        &mut repeats,
+        &mut firsts,
+    ) {
         Admission::Refused(r) => PromptAnswer::Refused(r),
-        Admission::Nodes(n, r) => light::light(&nodes, &starts, &nulls, &repeats, n, r, state),
+        Admission::Nodes(n, r) => {
+            light::light(&nodes, &starts, &nulls, &repeats, &firsts, n, r, state)
+        }
     }
 }

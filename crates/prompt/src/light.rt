@@ -7,11 +7,12 @@ ghost use Rattle.meaning.specs.Expr.{Expr};
 ghost use Rattle.meaning.specs.File.{Admitted};
 ghost use Rattle.meaning.specs.Promises.{Prompts};
 ghost use Rattle.procedure.specs.Entry.{held, kindOf};
-ghost use Rattle.procedure.specs.Listing.{Listing, Tables};
+ghost use Rattle.meaning.specs.Sets.{First};
+ghost use Rattle.procedure.specs.Listing.{Tables};
+ghost use Rattle.sets.specs.Tables.{TellsSets};
 ghost use Rattle.plan.specs.Plan.{Plans};
-ghost use Rattle.prompt.specs.Near.{CodeNear, StartLit, LitAt};
+ghost use Rattle.prompt.specs.Near.{CodeNear, LitAt};
 use crate::near;
-use judge::sets;
 use meaning::PromptAnswer;
 use meaning::Refusal;
 use plan::fill;
@@ -67,31 +68,24 @@ fn lit_after(
     lit
 }
 
-// At the start.
-fn lit_at_start(nodes: &[u64; 512], n: usize) -> u64
-    requires { ⌜ ((e : Expr) × Listing (now nodes) n e) ⌝ }
-    ensures { λ r. ⌜ StartLit (now (nodes .entry)) n r ⌝ }
-{
-    let root = sets::sets_of(nodes, n - 1);
-    root.first
-}
-
 // At a state's node: 0 at the start, or else 1 + the event node reached.
 fn lit(
     nodes: &[u64; 512],
     starts: &[u16; 512],
     nulls: &[bool; 512],
+    firsts: &[u64; 512],
     plan: &[u64; 512],
     n: usize,
     node: usize,
 ) -> u64
     requires { ⌜ node ≤ n ⌝ }
+    requires { ⌜ TellsSets First (held (now nodes)) (now firsts) n ⌝ }
     requires { ⌜ (1 ≤ node → kindOf (held (now nodes) (node - 1)) ≡ 1) ⌝ }
     requires { ⌜ ((e : Expr) × Plans (now nodes) (now starts) (now nulls) (now plan) n e) ⌝ }
     ensures { λ r. ⌜ LitAt (now (nodes .entry)) (now (starts .entry)) (now (nulls .entry)) (now (plan .entry)) n node r ⌝ }
 {
     if node == 0 {
-        return lit_at_start(nodes, n);
+        return firsts[n - 1];
     }
     lit_after(nodes, starts, nulls, plan, n, node - 1)
 }
@@ -102,10 +96,12 @@ pub fn light(
     starts: &[u16; 512],
     nulls: &[bool; 512],
     repeats: &[u16; 32],
+    firsts: &[u64; 512],
     n: usize,
     r: usize,
     bytes: &[u8],
 ) -> PromptAnswer
+    requires { ⌜ TellsSets First (held (now nodes)) (now firsts) n ⌝ }
     requires { ⌜ ((e : Expr) × Tables (now nodes) (now starts) (now nulls) (now repeats) n r e) ⌝ }
     ensures { λ a. ⌜ ((f : List ℕ) (e : Expr) → Admitted f e → Tables (now (nodes .entry)) (now (starts .entry)) (now (nulls .entry)) (now (repeats .entry)) n r e → Prompts f (now (bytes .entry)) a) ⌝ }
 {
@@ -124,5 +120,5 @@ pub fn light(
     };
     let mut plan = [0u64; 512];
     fill::fill_plan(nodes, nulls, &mut plan, n, r);
-    PromptAnswer::Lit(lit(nodes, starts, nulls, &plan, n, node))
+    PromptAnswer::Lit(lit(nodes, starts, nulls, firsts, &plan, n, node))
 }

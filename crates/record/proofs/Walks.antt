@@ -79,7 +79,7 @@ leaf-eats g w s i at kind n (To t) told k small e ins ends =
     let same-node = eqb-true n i (both .1) in
     at-leaf g s i kind told (λ x. Eats (Reading s x) s i (drop at w) (from (drop t w))) k
     (λ same z. absurd (omega arith))
-    (λ c same z.
+    (λ c same z code.
     subst (λ (j : ℕ). Eats (Reading s (event c)) s j (drop at w) (from (drop t w))) (sym same)
     (subst (λ (j : ℕ). Eats (Reading s (event c)) s s (drop at w) (from (drop j w))) (sym (ends .1))
     (event-taken s c n (drop at w) (drop (at + 1) w) (there .1) (same-node ∙ same))))
@@ -89,7 +89,7 @@ leaf-eats g w s i at kind n Stuck told k small e ins ends =
     (λ same z.
     subst (λ (j : ℕ). Eats (Reading s empty) s j (drop at w) nowhere) (sym same)
     (empty-nowhere s n (drop at w) (drop (at + 1) w) (there .1) (omega arith)))
-    (λ c same z.
+    (λ c same z code.
     subst (λ (j : ℕ). Eats (Reading s (event c)) s j (drop at w) nowhere) (sym same)
     (event-nowhere s c n (drop at w) (drop (at + 1) w) (there .1)
     (λ q. ends (and-eq-true-iff (eqb kind 1) (eqb n i) .1 (eq-eqb kind 1 z, eq-eqb n i (q ∙ sym same))))))

@@ -17,10 +17,11 @@ use Rattle.meaning.specs.theory.Conflicts.{Free}
 use Rattle.meaning.proofs.expressions.Parts.{root-size}
 use Rattle.procedure.specs.Entry.{kindOf, lowerOf, upperOf}
 use Rattle.procedure.specs.Listing.{NullAt}
+use Rattle.sets.specs.Tables.{SetAt}
 use Rattle.write.specs.declared.lay.Laid.{Laid}
 use Rattle.write.specs.declared.lay.Laid.the-variants.{To, Unlaid}
 use Rattle.record.specs.Put.{putAt, puts}
-use Rattle.write.specs.Lay.{Division, FirstAt, Halts, Lays, LaysAt, NextIn, Reported, into, never}
+use Rattle.write.specs.Lay.{Division, Halts, Lays, LaysAt, NextIn, Reported, into, never}
 use Rattle.record.proofs.Blocks.{blockOf}
 use Rattle.write.proofs.LaidBlocks.{Dwells, dwell-none, dwell-more, dwell-broken, dwell-idle, dwell-ended, dwell-off}
 use Rattle.write.proofs.Laying.{next-there, puts-both}
@@ -69,7 +70,7 @@ begins-there run at c u e =
     let l : at < length run = omega (arith, length-drop at run) in
     (l, head-eq-of-cons-eq (sym (drop-cons run at 0 l) ∙ e))
 
-module _ (g : ℕ → Node) (set : ℕ) (run space mid : List ℕ) (i event item k at to : ℕ) (begins : FirstAt g i set)
+module _ (g : ℕ → Node) (set : ℕ) (run space mid : List ℕ) (i event item k at to : ℕ) (begins : SetAt First g i set)
     (stay : DwellsAt g run space i event item k at to mid) where
   -- the body stands before the repeat
   body-at : (s : ℕ) (b : Expr) → s + size b ≡ i → root s b ≡ i - 1
@@ -79,7 +80,7 @@ module _ (g : ℕ → Node) (set : ℕ) (run space mid : List ℕ) (i event item
 
   module _ (next : NextIn set run at) (room : Within (k + 1) (bound (upperOf (g i)))) where
     begun : (s : ℕ) (b : Expr) → Stands g s (repeatAt g i b) → s + size b ≡ i → First b (getD run at 0)
-    unfolding FirstAt
+    unfolding SetAt
     begun s b p h = begins s (repeatAt g i b) p h (getD run at 0) .0 (next .1)
 
     abbrev Here : ℕ → Expr → List Item → Type 0
@@ -188,7 +189,7 @@ module _ (g : ℕ → Node) (set : ℕ) (run space mid : List ℕ) (i event item
     -- no other block begins
     pub dwell-stops : (null : Bool) (r : Laid) → NullAt g (i - 1) null → ¬ (NextIn set run at × Within (k + 1) (bound (upperOf (g i))))
         → Halts ((low null (lowerOf (g i)) ≤ k) × Within k (bound (upperOf (g i)))) at to r → LaysAt g run space i event item r mid
-    unfolding DwellsAt NullAt FirstAt
+    unfolding DwellsAt NullAt SetAt
     dwell-stops null r known out ends = repeat-lays r mid
         (λ s b p q free.
         let y = stay s b p q free in

@@ -15,16 +15,30 @@ use Rattle.meaning.specs.Reading.{Item, place, Reading}
 use Rattle.meaning.specs.Record.{itemNumber}
 use Rattle.meaning.specs.Sets.{First}
 use Rattle.meaning.specs.theory.Conflicts.{Free}
-use Rattle.procedure.specs.Entry.{kindOf, leftOf}
-use Rattle.procedure.specs.Listing.{NullAt}
+use Rattle.procedure.specs.Entry.{held, kindOf, leftOf}
+use Rattle.procedure.specs.Listing.{NullAt, OneOf, TellsNulls}
 use Rattle.procedure.specs.Tests.{Decides}
+use Rattle.sets.specs.Tables.{SetAt, TellsSets}
+use Rattle.sets.proofs.Tables.{sets-fewer}
 use Rattle.write.specs.declared.lay.Laid.{Laid}
 use Rattle.write.specs.declared.lay.Laid.the-variants.{To, Unlaid}
 use Rattle.record.specs.Put.{putAt, puts}
-use Rattle.write.specs.Lay.{Advances, Division, FirstAt, Halts, Lays, LaysAt, Leeway, NextIn, Reported, into, never, reach}
+use Rattle.write.specs.Lay.{Advances, Division, Halts, Lays, LaysAt, Leeway, NextIn, Reported, into, never, reach}
 use Rattle.write.proofs.Lays.{Unbegun, choice-left, choice-right, lays-event, lays-nothing, lays-never, onto, sequence-both, sequence-never}
 use Rattle.write.proofs.Reaches.{reach-narrow, reach-wide}
+use Rattle.procedure.proofs.Empties.{nulls-fewer}
+use Rattle.procedure.proofs.Nodes.{one-lower}
 use Rattle.procedure.proofs.Standing.{at-leaf, at-choice, at-sequence}
+
+-- ---- what is known up to a node is known up to every lower one
+
+pub known-lower : (nodes : List ℕ) (nulls : List Bool) (firsts : List ℕ) (i j : ℕ) → j ≤ i → OneOf nodes i → TellsNulls (held nodes) nulls (i + 1)
+    → TellsSets First (held nodes) firsts (i + 1) → OneOf nodes j × TellsNulls (held nodes) nulls (j + 1) × TellsSets First (held nodes) firsts (j + 1)
+known-lower nodes nulls firsts i j h o known begun = (
+  one-lower i j h o,
+  nulls-fewer (held nodes) nulls (j + 1) (i + 1) (omega arith) known,
+  sets-fewer First (held nodes) firsts (j + 1) (i + 1) (omega arith) begun,
+)
 
 -- ---- how a walk ends
 
@@ -90,9 +104,9 @@ reported-onto run space mid after to t x never Unlaid e m told = tt
 
 -- ---- a part that is passed by, and a leaf
 
-module _ (g : ℕ → Node) (set : ℕ) (run space : List ℕ) (i at to : ℕ) (begins : FirstAt g i set) where
+module _ (g : ℕ → Node) (set : ℕ) (run space : List ℕ) (i at to : ℕ) (begins : SetAt First g i set) where
   pub pass-by : (null : Bool) (r : Laid) → NullAt g i null → ¬ NextIn set run at → Halts (So null) at to r → LaysAt g run space i at to r space
-  unfolding LaysAt NullAt FirstAt
+  unfolding LaysAt NullAt SetAt
   pass-by null (To a t) known out ends = λ s e p h free.
       let unbegun = unbegun-at set e run at (λ c. begins s e p h c .1) out in
       (into [] (drop at run), lays-nothing s e (drop at run) unbegun (sym (known s e p h) ∙ ends .0), (ap (λ (k : ℕ). drop k run) (sym (ends .1)), omega (arith, ends .2), refl))
@@ -103,13 +117,13 @@ module _ (g : ℕ → Node) (set : ℕ) (run space : List ℕ) (i at to : ℕ) (
   -- the next code is in first of the part
   module _ (kind : ℕ) (told : kind ≡ kindOf (g i)) (next : NextIn set run at) where
     pub leaf-lays : kind < 2 → LaysAt g run space i at to (To (at + 1) (to + 1)) (putAt space to i)
-    unfolding LaysAt FirstAt
+    unfolding LaysAt SetAt
     leaf-lays k = λ s e p h free.
         at-leaf g s i kind told
         (λ e. First e (getD run at 0)
         → (q : Division) × Lays (Reading s e) e (drop at run) q × Reported run space to q (To (at + 1) (to + 1)) (putAt space to i)) k
         (λ same z f. absurd f)
-        (λ c same z f. (
+        (λ c same z code f. (
           into (place s c ∷ []) (drop (at + 1) run),
           subst (λ (w : List ℕ). Lays (Reading s (event c)) (event c) w (into (place s c ∷ []) (drop (at + 1) run))) (sym (next-there set run at next))
               (lays-event s c (getD run at 0) (drop (at + 1) run) f),
@@ -120,9 +134,9 @@ module _ (g : ℕ → Node) (set : ℕ) (run space : List ℕ) (i at to : ℕ) (
     -- ---- a choice
 
     module _ (after : List ℕ) (r : Laid) (left : ℕ) (f : left ≡ leftOf (g i)) (k : kind ≡ 2)
-        (lefts : ℕ) (left-begins : FirstAt g left lefts) where
+        (lefts : ℕ) (left-begins : SetAt First g left lefts) where
       pub choice-goes-left : NextIn lefts run at → LaysAt g run space left at to r after → LaysAt g run space i at to r after
-      unfolding LaysAt FirstAt
+      unfolding LaysAt SetAt
       choice-goes-left here a = λ s.
           at-choice g s i kind told (λ e. Free e → (q : Division) × Lays (Reading s e) e (drop at run) q × Reported run space to q r after) left f k
           (λ x y t free.
@@ -136,7 +150,7 @@ module _ (g : ℕ → Node) (set : ℕ) (run space : List ℕ) (i at to : ℕ) (
           ))
 
       pub choice-goes-right : ¬ NextIn lefts run at → LaysAt g run space (i - 1) at to r after → LaysAt g run space i at to r after
-      unfolding LaysAt FirstAt
+      unfolding LaysAt SetAt
       choice-goes-right out a = λ s e p h free.
           at-choice g s i kind told
           (λ e. First e (getD run at 0) → Free e → (q : Division) × Lays (Reading s e) e (drop at run) q × Reported run space to q r after) left f k

@@ -1,5 +1,4 @@
 -- The laws that belong to no one function.
-mod Beginnings
 mod Laid
 mod LaidBlocks
 mod LaidStays

@@ -1,6 +1,5 @@
 -- What a part lays of a run: the items of its reading, one after the other. A model of our code, and no promise.
 use mathlib.Core.Path.{_≡_}
-use mathlib.Core.Logic.{_↔_}
 use mathlib.Core.List.{List, [], _∷_, _++_, map}
 use Prim.Native.Nat.{ℕ, _+_, _-_, _*_, _≤_, _<_}
 use lib.ListN.{length, drop, getD}
@@ -14,14 +13,6 @@ use Rattle.meaning.specs.theory.Conflicts.{Free}
 use Rattle.write.specs.declared.lay.Laid.{Laid}
 use Rattle.write.specs.declared.lay.Laid.the-variants.{To, Unlaid}
 use Rattle.record.specs.Put.{puts}
-
--- the set has the codes that are in first of the part of node i
-unfoldable pub FirstAt : (ℕ → Node) → ℕ → ℕ → Type 0
-FirstAt g i codes = (s : ℕ) (e : Expr) → Stands g s e → root s e ≡ i → (c : ℕ) → Has codes c ↔ First e c
-
--- the table has such a set for each node below n
-unfoldable pub TellsFirsts : (ℕ → Node) → List ℕ → ℕ → Type 0
-TellsFirsts g firsts n = (i : ℕ) → i < n → FirstAt g i (getD firsts i 0)
 
 -- the next code of the run is in the set
 abbrev pub NextIn : ℕ → List ℕ → ℕ → Type 0

@@ -4,10 +4,12 @@ ghost use mathlib.Core.Path.{_≡_};
 ghost use Prim.Native.Nat.{_+_};
 ghost use Rattle.meaning.specs.Expr.{Within};
 ghost use Rattle.meaning.specs.Node.{bound};
+ghost use Rattle.meaning.specs.Sets.{First};
 ghost use Rattle.procedure.specs.Entry.{held, kindOf, unpacked, upperOf};
 ghost use Rattle.procedure.specs.Listing.{OneOf, TellsNulls};
 ghost use Rattle.procedure.specs.Tests.{Decides};
-ghost use Rattle.write.specs.Lay.{Advances, Halts, LaysAt, Leeway, NextIn, TellsFirsts};
+ghost use Rattle.sets.specs.Tables.{TellsSets};
+ghost use Rattle.write.specs.Lay.{Advances, Halts, LaysAt, Leeway, NextIn};
 use procedure::bounds;
 use procedure::entry;
 use record::items;
@@ -70,7 +72,7 @@ pub fn lay(
 ) -> Laid
     requires { ⌜ OneOf (now nodes) node ⌝ }
     requires { ⌜ TellsNulls (held (now nodes)) (now nulls) (node + 1) ⌝ }
-    requires { ⌜ TellsFirsts (held (now nodes)) (now firsts) (node + 1) ⌝ }
+    requires { ⌜ TellsSets First (held (now nodes)) (now firsts) (node + 1) ⌝ }
     requires { ⌜ Leeway (now run) node event item ⌝ }
     ensures { λ r. ⌜ Advances (now (run .entry)) node event item r ⌝ }
     ensures { λ r. ⌜ LaysAt (held (now (nodes .entry))) (now (run .entry)) (now (space .entry)) node event item r (now (space .exit)) ⌝ }
@@ -122,7 +124,7 @@ fn lay_blocks(
 ) -> Laid
     requires { ⌜ OneOf (now nodes) i ⌝ }
     requires { ⌜ TellsNulls (held (now nodes)) (now nulls) (i + 1) ⌝ }
-    requires { ⌜ TellsFirsts (held (now nodes)) (now firsts) (i + 1) ⌝ }
+    requires { ⌜ TellsSets First (held (now nodes)) (now firsts) (i + 1) ⌝ }
     requires { ⌜ Leeway (now run) i event item ⌝ }
     requires { ⌜ kindOf (held (now nodes) i) ≡ 4 ⌝ }
     ensures { λ r. ⌜ Advances (now (run .entry)) i event item r ⌝ }

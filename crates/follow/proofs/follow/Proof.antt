@@ -16,18 +16,18 @@ enum-known-n : tie.Need-enum-known-n
 enum-known-n c = search needs
 
 abbrev begun : tie.After-admit → tie.Start
-begun r = r .before .before .before .before .before .before .before .before
+begun r = r .before .before .before .before .before .before .before .before .before
 
 go-on-requires : tie.Need-go-on-requires
 go-on-requires c κs =
     let n = c .before .before .before .before .before .before in
     let judged = n .before .before in
-    entered-tables (begun judged .args .file .now) _ _ _ _ (judged .admit .result) (judged .admit .ensures) _ _ (n .n .given .1)
+    entered-tables (begun judged .args .file .now) _ _ _ _ _ (judged .admit .result) (judged .admit .ensures) _ _ (n .n .given .1)
 
 returns : tie.Need-returns
 returns c =
     let judged = c .before .before .before in
-    Follows.refused _ (barred (begun judged .args .file .now) _ _ _ _ (judged .admit .result) (judged .admit .ensures) _ (c .before .r .given .1))
+    Follows.refused _ (barred (begun judged .args .file .now) _ _ _ _ _ (judged .admit .result) (judged .admit .ensures) _ (c .before .r .given .1))
 
 same-length : tie.Need-same-length
 same-length c = search needs
@@ -37,7 +37,7 @@ returns-2 c =
     let gone = c .before .before in
     let n = gone .before .before .before .before .before .before .before in
     let judged = n .before .before in
-    follows-entered (entered (begun judged .args .file .now) _ _ _ _ (judged .admit .result) (judged .admit .ensures) _ _ (n .n .given .1)) (gone .go-on .ensures)
+    follows-entered (entered (begun judged .args .file .now) _ _ _ _ _ (judged .admit .result) (judged .admit .ensures) _ _ (n .n .given .1)) (gone .go-on .ensures)
 
 pub follow-spec : {M : Type 1} → statement M
 follow-spec =

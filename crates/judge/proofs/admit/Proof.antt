@@ -1,10 +1,11 @@
--- `judge::admit` meets its contract: what was read is admitted where nothing is found at the root. Assumes nothing.
+-- `judge::admit` meets its contract: what was read is admitted where no conflict is found in it. Assumes nothing.
 use mathlib.Core.Bool.{Bool}
 use mathlib.Core.List.{List}
-use Prim.Native.Nat.{ℕ, _-_, _≤_}
+use Prim.Native.Nat.{ℕ}
+use native.Mathlib.Omega.{arith}
 use borrow.Author.Needs.{needs}
-use Rattle.procedure.specs.Listing.{OneOf}
-use Rattle.judge.proofs.Admissions.{admits-neither, admits-nodes, admits-not, ready}
+use Rattle.procedure.specs.Opening.{Filled}
+use Rattle.judge.proofs.Admissions.{admits-neither, admits-nodes, admits-not, filled}
 use Rattle.judge.proofs.admit.Statement.{statement}
 use Rattle.judge.proofs.admit.Tie as tie
 
@@ -34,45 +35,51 @@ nulls c = c .read .last .1 .1 .1 .0
 abbrev repeats : tie.After-read → List ℕ
 repeats c = c .read .last .1 .1 .1 .1 .0
 
-returns : tie.Need-returns
-returns c =
-    let read = c .before .before .before in
-    admits-neither (file read) (nodes read) (starts read) (nulls read) (repeats read) (read .read .result) _ (read .read .ensures) (c .before .r .given .1)
-
 -- ---- where it was read as n nodes
 
-root-ready : (c : tie.After-n) → (1 ≤ c .n .given .0 .0) × OneOf (nodes (c .before .before)) (c .n .given .0 .0 - 1)
-root-ready c =
+abbrev n : tie.After-n → ℕ
+n c = c .n .given .0 .0
+
+opened : (c : tie.After-n) → Filled (file (c .before .before)) (nodes (c .before .before)) (starts (c .before .before)) (nulls (c .before .before)) (repeats (c .before .before)) (n c) (c .n .given .0 .1 .0)
+opened c =
     let read = c .before .before in
-    ready (file read) (nodes read) (starts read) (nulls read) (repeats read) (read .read .result) _ _ (read .read .ensures) (c .n .given .1)
+    filled (file read) (nodes read) (starts read) (nulls read) (repeats read) (read .read .result) _ _ (read .read .ensures) (c .n .given .1)
 
-sub-sets-of : tie.Need-sub-sets-of
-sub-sets-of c = root-ready (c .before .before) .0
+slice-aggregate-fill-sets : tie.Need-slice-aggregate-fill-sets
+slice-aggregate-fill-sets c = search needs
 
-sets-of-requires : tie.Need-sets-of-requires
-sets-of-requires c κs = root-ready (c .before .before) .1
+fill-sets-requires : tie.Need-fill-sets-requires
+fill-sets-requires c κs =
+    let tables = opened (c .before .before .before .before .before) .tables in (
+      (omega (arith, tables .listing .few, c .before .fill-sets-arg3 .given .0 .1), omega (arith, tables .listing .few)),
+      ((_, tables .listing), tables .empties),
+    )
 
-enum-told : tie.Need-enum-told
-enum-told c = search needs
+lowest-requires : tie.Need-lowest-requires
+lowest-requires c κs = search needs
 
-enum-known-found : tie.Need-enum-known-found
-enum-known-found c = search needs
+returns : tie.Need-returns
+returns c =
+    let looked = c .before in
+    let found = looked .before .before in
+    let n = found .before .before .before .before .before .before in
+    let read = n .before .before in
+    admits-not (file read) (nodes read) (starts read) (nulls read) (repeats read) (read .read .result) _ _ (read .read .ensures) (n .n .given .1)
+    (found .fill-sets .result) (looked .lowest .result) (found .fill-sets .ensures .1 .1) (looked .lowest .ensures) (c .if1 .taken)
 
 returns-2 : tie.Need-returns-2
 returns-2 c =
-    let root = c .before .before in
-    let n = root .before .before .before in
-    let read = n .before .before in
-    admits-nodes (file read) (nodes read) (starts read) (nulls read) (repeats read) (read .read .result) _ _ (read .read .ensures) (n .n .given .1)
-    (root .sets-of .result) (root .sets-of .ensures) (c .enum-told .given .1)
+    let read = c .before .before .before in
+    admits-neither (file read) (nodes read) (starts read) (nulls read) (repeats read) (read .read .result) _ (read .read .ensures) (c .before .r .given .1)
 
 returns-3 : tie.Need-returns-3
 returns-3 c =
-    let root = c .before .before .before in
-    let n = root .before .before .before in
+    let looked = c .before in
+    let found = looked .before .before in
+    let n = found .before .before .before .before .before .before in
     let read = n .before .before in
-    admits-not (file read) (nodes read) (starts read) (nulls read) (repeats read) (read .read .result) _ _ (read .read .ensures) (n .n .given .1)
-    (root .sets-of .result) _ _ _ (root .sets-of .ensures) (c .before .found .given .1)
+    admits-nodes (file read) (nodes read) (starts read) (nulls read) (repeats read) (read .read .result) _ _ (read .read .ensures) (n .n .given .1)
+    (found .fill-sets .result) (looked .lowest .result) (found .fill-sets .ensures .1 .1) (looked .lowest .ensures) _ (λ l. omega arith) (found .fill-sets .ensures .0)
 
 pub admit-spec : {M : Type 1} → statement M
 admit-spec =
@@ -81,10 +88,9 @@ admit-spec =
     read-requires
     enum-known-r
     enum-known-n
-    sub-sets-of
-    sets-of-requires
-    enum-told
-    enum-known-found
+    slice-aggregate-fill-sets
+    fill-sets-requires
+    lowest-requires
     returns
     returns-2
     returns-3)

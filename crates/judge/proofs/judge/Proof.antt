@@ -17,14 +17,14 @@ returns : tie.Need-returns
 returns c =
     let judged = c .before .before in
     let tables = judged .admit .last .1 in
-    judges-admitted (judged .before .before .before .before .before .before .args .file .now) (tables .0) (tables .1 .0) (tables .1 .1 .0) (tables .1 .1 .1 .0)
+    judges-admitted (judged .before .before .before .before .before .before .before .args .file .now) (tables .0) (tables .1 .0) (tables .1 .1 .0) (tables .1 .1 .1 .0) (tables .1 .1 .1 .1 .0)
     (judged .admit .result) _ _ (judged .admit .ensures) (c .enum-told .given .1)
 
 returns-2 : tie.Need-returns-2
 returns-2 c =
     let judged = c .before .before .before in
     let tables = judged .admit .last .1 in
-    judges-refused (judged .before .before .before .before .before .before .args .file .now) (tables .0) (tables .1 .0) (tables .1 .1 .0) (tables .1 .1 .1 .0)
+    judges-refused (judged .before .before .before .before .before .before .before .args .file .now) (tables .0) (tables .1 .0) (tables .1 .1 .0) (tables .1 .1 .1 .0) (tables .1 .1 .1 .1 .0)
     (judged .admit .result) _ (judged .admit .ensures) (c .before .r .given .1)
 
 pub judge-spec : {M : Type 1} → statement M

@@ -1,12 +1,12 @@
 -- `write::write` meets its contract, by what becomes of the file and then of the run. Assumes nothing.
 use borrow.Author.Needs.{needs}
 use Rattle.meaning.specs.Promises.{Writes}
-use Rattle.judge.proofs.Entering.{barred, entered, entered-tables}
+use Rattle.judge.proofs.Entering.{barred, entered}
 use Rattle.write.proofs.write.Statement.{statement}
 use Rattle.write.proofs.write.Tie as tie
 
 abbrev begun : tie.After-admit → tie.Start
-begun d = d .before .before .before .before .before .before .before .before
+begun d = d .before .before .before .before .before .before .before .before .before
 
 admit-requires : tie.Need-admit-requires
 admit-requires c κs = search needs
@@ -19,15 +19,15 @@ enum-known-n c = search needs
 
 write-run-requires : tie.Need-write-run-requires
 write-run-requires c κs =
-    let n = c .before .before .before .before in
+    let n = c .before .before .before .before .before in
     let judged = n .before .before in
-    let t = entered-tables (begun judged .args .file .now) _ _ _ _ (judged .admit .result) (judged .admit .ensures) _ _ (n .n .given .1) in
-    ((t .0, t .1 .listing), t .1 .empties)
+    let o = entered (begun judged .args .file .now) _ _ _ _ _ (judged .admit .result) (judged .admit .ensures) _ _ (n .n .given .1) in
+    ((o .filled .expr, o .filled .tables .listing), (o .filled .tables .empties, o .beginnings))
 
 returns : tie.Need-returns
 returns c =
     let judged = c .before .before .before in
-    Writes.refused _ (barred (begun judged .args .file .now) _ _ _ _ (judged .admit .result) (judged .admit .ensures) _ (c .before .r .given .1))
+    Writes.refused _ (barred (begun judged .args .file .now) _ _ _ _ _ (judged .admit .result) (judged .admit .ensures) _ (c .before .r .given .1))
 
 same-length : tie.Need-same-length
 same-length c = search needs
@@ -35,9 +35,9 @@ same-length c = search needs
 returns-2 : tie.Need-returns-2
 returns-2 c =
     let written = c .before .before in
-    let n = written .before .before .before .before .before in
+    let n = written .before .before .before .before .before .before in
     let judged = n .before .before in
-    let o = entered (begun judged .args .file .now) _ _ _ _ (judged .admit .result) (judged .admit .ensures) _ _ (n .n .given .1) in
+    let o = entered (begun judged .args .file .now) _ _ _ _ _ (judged .admit .result) (judged .admit .ensures) _ _ (n .n .given .1) in
     written .write-run .ensures _ (o .filled .expr) (o .admitted) (o .filled .tables .listing)
 
 pub write-spec : {M : Type 1} → statement M

@@ -5,12 +5,14 @@ use Prim.Native.Nat.{ℕ, _+_, _-_, _≤_}
 use native.Mathlib.Omega.{arith}
 use borrow.Author.Needs.{needs}
 use lib.ListN.{length}
+use Rattle.meaning.specs.Sets.{First}
 use Rattle.procedure.specs.Entry.{held}
 use Rattle.procedure.specs.Listing.{TellsNulls}
 use Rattle.procedure.proofs.Nodes.{one-of}
 use Rattle.procedure.proofs.Nodes.{listing-some}
+use Rattle.sets.specs.Tables.{TellsSets}
 use Rattle.write.specs.declared.lay.Laid.the-variants.{To}
-use Rattle.write.specs.Lay.{Advances, TellsFirsts}
+use Rattle.write.specs.Lay.{Advances}
 use Rattle.write.proofs.Laid.{Short}
 use Rattle.write.proofs.Writing.{few-items, walk-leeway, writes-all, writes-incomplete, writes-no-room, writes-too-long}
 use Rattle.write.proofs.write_run.Statement.{statement}
@@ -31,19 +33,13 @@ short : (m : tie.Else1) → length (run m) ≤ 65536
 short m = omega (arith, m .if1 .left)
 
 abbrev measured : tie.After-none → tie.Else1
-measured m = m .before .before .before .before .before
+measured m = m .before
 
 few : (a : tie.Start) → (1 ≤ a .args .n) × (a .args .n ≤ 512)
 few a = let l = a .pre .0 .1 in (listing-some l, l .few)
 
 returns : tie.Need-returns
 returns c = let a = c .before .before .before in λ f x o l. writes-too-long o l (a .args .run .now) (a .args .space .now) (omega (arith, c .if1 .taken))
-
-slice-aggregate-fill-firsts : tie.Need-slice-aggregate-fill-firsts
-slice-aggregate-fill-firsts c = search needs
-
-fill-firsts-requires : tie.Need-fill-firsts-requires
-fill-firsts-requires c κs = let a = begun (c .before) in (few a .1, (a .pre .0, a .pre .1))
 
 slice-aggregate-lay : tie.Need-slice-aggregate-lay
 slice-aggregate-lay c = search needs
@@ -59,7 +55,7 @@ lay-requires c κs =
     let some = few a .0 in
     let all : n ≡ n - 1 + 1 = omega arith in (
       one-of (a .pre .0 .1) (n - 1) (omega arith),
-      (subst (TellsNulls (held (a .args .nodes .now)) _) all (a .pre .1), (subst (TellsFirsts (held (a .args .nodes .now)) _) all (c .before .before .before .fill-firsts .ensures), walk-leeway (run m) n (few a .1) (short m))),
+      (subst (TellsNulls (held (a .args .nodes .now)) _) all (a .pre .1 .0), (subst (TellsSets First (held (a .args .nodes .now)) _) all (a .pre .1 .1), walk-leeway (run m) n (few a .1) (short m))),
     )
 
 enum-known-events : tie.Need-enum-known-events
@@ -119,10 +115,10 @@ returns-4 c =
     (space m) (omega (arith, c .if3 .taken))
 
 sub-lay-2 : tie.Need-sub-lay-2
-sub-lay-2 c = few (begun (before (c .before .before .before))) .0
+sub-lay-2 c = few (begun (before (c .before .before))) .0
 
 lay-requires-2 : tie.Need-lay-requires-2
-lay-requires-2 c κs = lay-requires (first (c .before .before .before) .before) κs
+lay-requires-2 c κs = lay-requires (first (c .before .before) .before) κs
 
 same-length : tie.Need-same-length
 same-length c = search needs
@@ -130,7 +126,7 @@ same-length c = search needs
 returns-5 : tie.Need-returns-5
 returns-5 c =
     let second = c .before .before in
-    let e = second .before .before .before in
+    let e = second .before .before in
     let d = e .before in
     let m = before d in
     λ f x o l. writes-all o l (run m) (short m) _ _ (first d .lay .result) (events d) (items d) (first d .lay .ensures .1) (told d .events .given .1) (d .if2 .left)
@@ -141,8 +137,6 @@ write-run-spec =
     tie.close
     (tie.spec
     returns
-    slice-aggregate-fill-firsts
-    fill-firsts-requires
     slice-aggregate-lay
     sub-lay
     lay-requires

@@ -61,13 +61,13 @@ lit-requires : tie.Need-lit-requires
 lit-requires c κs =
     let m = c .before in
     let r = read m in
-    let pre = begun r .pre in
+    let pre = begun r .pre .1 in
     let e = pre .0 in
     let listing = pre .1 .listing in
     let same = node m .node .given .1 in
     let came = told r e (pre .1) in (
       read-below e (bytes r) (counts r) _ _ _ (listing .sized) came same,
-      (read-event e (bytes r) (counts r) _ _ listing came same, (e, planned m e (pre .1))),
+      (begun r .pre .0, (read-event e (bytes r) (counts r) _ _ listing came same, (e, planned m e (pre .1)))),
     )
 
 returns : tie.Need-returns

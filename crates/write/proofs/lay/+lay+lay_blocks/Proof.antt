@@ -12,6 +12,7 @@ use borrow.Fn.Kinds.{In}
 use borrow.Fn.PlainCycle.{Measures, is, falls, and}
 use Rattle.meaning.specs.Expr.{Within}
 use Rattle.meaning.specs.Node.{Node, bound}
+use Rattle.meaning.specs.Sets.{First}
 use Rattle.procedure.specs.Entry.{held, kindOf, upperOf}
 use Rattle.procedure.specs.Listing.{OneOf, TellsNulls}
 use Rattle.procedure.specs.Tests.{Decides}
@@ -19,13 +20,14 @@ use Rattle.procedure.proofs.Deciding.{fails, holds}
 use Rattle.procedure.proofs.Empties.{null-told}
 use Rattle.procedure.proofs.Nodes.{one-ordered, one-small}
 use Rattle.procedure.proofs.Standing.{last-order, left-lower}
+use Rattle.sets.specs.Tables.{SetAt, TellsSets}
 use Rattle.write.specs.declared.lay.Laid.{Laid}
 use Rattle.write.specs.declared.lay.Laid.the-variants.{To, Unlaid}
 use Rattle.record.specs.Put.{putAt}
-use Rattle.write.specs.Lay.{Advances, FirstAt, LaysAt, Leeway, NextIn, TellsFirsts, reach}
-use Rattle.write.proofs.Beginnings.{first-told, known-lower}
+use Rattle.write.specs.Lay.{Advances, LaysAt, Leeway, NextIn, reach}
+use Rattle.sets.proofs.Tables.{set-told}
 use Rattle.write.proofs.LaidStays.{DwellsAt, dwell-starts, dwell-goes, dwell-stops, unlaid-body, unlaid-event}
-use Rattle.write.proofs.Laying.{halts-decided, advances-halts, advances-further, advances-wide, leeway-narrow, leeway-further, pass-by, leaf-lays, choice-goes-left, choice-goes-right, sequence-goes, sequence-unlaid}
+use Rattle.write.proofs.Laying.{known-lower, halts-decided, advances-halts, advances-further, advances-wide, leeway-narrow, leeway-further, pass-by, leaf-lays, choice-goes-left, choice-goes-right, sequence-goes, sequence-unlaid}
 use Rattle.write.proofs.Reaches.{reach-over, reach-event, reach-wide, reach-open, reach-close}
 use Rattle.write.proofs.lay.lay.Reads as lay
 use Rattle.write.proofs.lay.lay.Kinds as lay-kinds
@@ -143,7 +145,7 @@ next-here t c = holds _ (c .before .next-in .result) (c .before .next-in .ensure
 
 -- what is known of the node that the loop is at, and of every lower one
 known : (t : ℕ) (a : lay-lts.At-loop (lay-calls t) (lay-at t) lay.Post lay-Inv-loop lay-μ-loop) (j : ℕ) → j ≤ a .loop .i
-    → OneOf (a .before .before .before .args .nodes .now) j × TellsNulls (lay-nodes a) (lay-nulls a) (j + 1) × TellsFirsts (lay-nodes a) (lay-firsts a) (j + 1)
+    → OneOf (a .before .before .before .args .nodes .now) j × TellsNulls (lay-nodes a) (lay-nulls a) (j + 1) × TellsSets First (lay-nodes a) (lay-firsts a) (j + 1)
 known t a j h =
     let b = a .before .before .before in
     known-lower (b .args .nodes .now) (lay-nulls a) (lay-firsts a) (b .args .node) j (omega (arith, a .loop .inv .1)) (b .pre .1 .0) (b .pre .1 .1 .0) (b .pre .1 .1 .1 .0)
@@ -151,8 +153,8 @@ known t a j h =
 small : (t : ℕ) (a : lay-lts.At-loop (lay-calls t) (lay-at t) lay.Post lay-Inv-loop lay-μ-loop) → a .loop .i < 512
 small t a = one-small (a .loop .i) (known t a (a .loop .i) (omega arith) .0)
 
-begins-at : (t : ℕ) (a : lay-lts.At-loop (lay-calls t) (lay-at t) lay.Post lay-Inv-loop lay-μ-loop) (j : ℕ) → j ≤ a .loop .i → FirstAt (lay-nodes a) j (getD (lay-firsts a) j 0)
-begins-at t a j h = first-told (lay-nodes a) (lay-firsts a) (j + 1) j (known t a j h .2) (omega arith)
+begins-at : (t : ℕ) (a : lay-lts.At-loop (lay-calls t) (lay-at t) lay.Post lay-Inv-loop lay-μ-loop) (j : ℕ) → j ≤ a .loop .i → SetAt First (lay-nodes a) j (getD (lay-firsts a) j 0)
+begins-at t a j h = set-told First (lay-nodes a) (lay-firsts a) (j + 1) j (known t a j h .2) (omega arith)
 
 -- the children of a node with two
 left-below : (t : ℕ) (c : lay-lts.After-left-of (lay-calls t) (lay-at t) lay.Post lay-Inv-loop lay-μ-loop)
@@ -431,8 +433,8 @@ body t a =
     let is-repeat = b .pre .1 .1 .1 .1 .1 in
     last-order (block-nodes a) (b .args .i) (kindOf (block-nodes a (b .args .i))) refl (omega arith) (one-ordered (b .args .i) (b .pre .1 .0)) .1
 
-begins-here : (t : ℕ) (a : lay-blocks-lts.At-loop (block-calls t) (lay-blocks-at t) lay-blocks.Post lay-blocks-Inv-loop lay-blocks-μ-loop) → let i = a .before .before .before .args .i in FirstAt (block-nodes a) i (getD (block-firsts a) i 0)
-begins-here t a = let b = a .before .before .before in first-told (block-nodes a) (block-firsts a) (b .args .i + 1) (b .args .i) (b .pre .1 .1 .1 .0) (omega arith)
+begins-here : (t : ℕ) (a : lay-blocks-lts.At-loop (block-calls t) (lay-blocks-at t) lay-blocks.Post lay-blocks-Inv-loop lay-blocks-μ-loop) → let i = a .before .before .before .args .i in SetAt First (block-nodes a) i (getD (block-firsts a) i 0)
+begins-here t a = let b = a .before .before .before in set-told First (block-nodes a) (block-firsts a) (b .args .i + 1) (b .args .i) (b .pre .1 .1 .1 .0) (omega arith)
 
 -- another block begins
 begins : (t : ℕ) (c : lay-blocks-lts.Else1 (block-calls t) (lay-blocks-at t) lay-blocks.Post lay-blocks-Inv-loop lay-blocks-μ-loop)
