@@ -30,8 +30,10 @@ JUDGE_TARGETS = {**dict.fromkeys(["P6", "P7", "P8", "P10"], "1/5"), **dict.fromk
 ONE_EVENT_TARGETS = {**dict.fromkeys(["P6", "P7", "P8", "P10"], "1/3"), **dict.fromkeys(["P1", "P4"], "1/2")}
 EVENT_TARGETS = dict.fromkeys(["P3", "P6", "P7", "P9"], "1")
 # So many instructions at most, whatever libxml2 takes.
-ONE_EVENT_LIMITS = {"P10": 75_000}
+JUDGE_LIMITS = {"P1": 1_250, "P10": 42_000}
+ONE_EVENT_LIMITS = {"P10": 62_000}
 MIDRUN_LIMITS = {"P10": 77_000}
+PROMPT_LIMITS = {"P10": 62_000}
 # Twice the nodes may cost so many times as much.
 DOUBLING_TARGET = "2.2"
 
@@ -39,6 +41,8 @@ DOUBLING_TARGET = "2.2"
 HEADER = TOP / "include" / "seqp.h"
 STATED = re.compile(r"^#define SEQ_(\w+)_STACK (\d+)$", re.M)
 MOST_BEYOND = 2048
+# And so many bytes at most, where a call does not nest in the number of nodes.
+STACK_LIMITS = dict.fromkeys(["judge", "follow", "prompt"], 24_000)
 
 # libxml2's cost of a repetition settles only after the first, when its memory is used again.
 LIBXML2_REPEATS = 10
@@ -215,11 +219,14 @@ class Table:
         say(line((what, name, figure(mine), figure(theirs), ratio, target or "", verdict)))
         return mine
 
-    def stack_row(self, what, ours, stated):
+    def stack_row(self, what, ours, stated, limit):
         """A row of bytes; the header states as many or somewhat more."""
         mine = ours()
         held = stated is not None and mine <= stated <= mine + MOST_BEYOND
-        say(line((what, "deepest", figure(mine), "", "", "", f"{self.judged(held)}, the header states {stated or 0:,}")))
+        verdict = f"{self.judged(held)}, the header states {stated or 0:,}"
+        if limit:
+            verdict += f", {self.judged(mine <= limit)} {limit:,}"
+        say(line((what, "deepest", figure(mine), "", "", "", verdict)))
 
     def judged(self, held):
         self.met, self.missed = self.met + held, self.missed + (not held)
@@ -241,7 +248,7 @@ class Bench:
     def judge(self):
         for name in procedures.NAMED:
             self.compare("Judge a file", name, lambda: self.ours.cost("judge", name, 0),
-                         self.theirs.compile(name), JUDGE_TARGETS.get(name))
+                         self.theirs.compile(name), JUDGE_TARGETS.get(name), JUDGE_LIMITS.get(name))
 
     def follow_one(self):
         for name in procedures.NAMED:
@@ -269,6 +276,12 @@ class Bench:
         self.each_event("Write, an event", lambda name, _: self.ours.cost("write", name, "all"))
         self.each_event("Check, an event", lambda name, _: self.ours.cost("check", name, "all"))
 
+    def prompt_at_start(self):
+        """libxml2 has no such call."""
+        for name in procedures.NAMED:
+            self.table.row("Prompt at the start", name, lambda: self.ours.cost("prompt", name, 0), None,
+                           limit=PROMPT_LIMITS.get(name))
+
     def growth(self):
         """What a call costs that has little to do besides reading the file, as the file grows."""
         for call, what, given in (("judge", "Judge", 0), ("follow", "Follow one event", 1),
@@ -289,6 +302,7 @@ class Bench:
         self.follow_one()
         self.follow_midrun()
         self.in_bulk()
+        self.prompt_at_start()
         self.growth()
         stack_rows(self.ours, self.table)
         return self.table.end()
@@ -303,7 +317,8 @@ def stack_rows(ours, table):
     """What each call takes on the deepest procedures, held to what the header states."""
     stated = stated_stack()
     for call in CALLS:
-        table.stack_row(f"{call.capitalize()}, stack in bytes", lambda: worst_stack(ours, call), stated.get(call))
+        table.stack_row(f"{call.capitalize()}, stack in bytes", lambda: worst_stack(ours, call), stated.get(call),
+                        STACK_LIMITS.get(call))
 
 
 def worst_stack(ours, call):

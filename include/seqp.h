@@ -38,10 +38,10 @@
 extern "C" {
 #endif
 
-/* The version of this header and of the library that it was installed with, also as text: "0.2.0". */
+/* The version of this header and of the library that it was installed with, also as text: "0.2.1". */
 #define SEQ_VERSION_MAJOR 0
 #define SEQ_VERSION_MINOR 2
-#define SEQ_VERSION_PATCH 0
+#define SEQ_VERSION_PATCH 1
 #define SEQ_TEXT_OF(number) #number
 #define SEQ_TEXT(number) SEQ_TEXT_OF(number)
 #define SEQ_VERSION SEQ_TEXT(SEQ_VERSION_MAJOR) "." SEQ_TEXT(SEQ_VERSION_MINOR) "." SEQ_TEXT(SEQ_VERSION_PATCH)
@@ -155,11 +155,11 @@ enum seq_conflict {
  * procedures that there are, 511 nodes with 32 repeats in one chain, and rounded up to whole 1,024. A signal
  * that is handled on the same stack needs its own besides.
  */
-#define SEQ_JUDGE_STACK 93184
-#define SEQ_FOLLOW_STACK 97280
-#define SEQ_WRITE_STACK 97280
+#define SEQ_JUDGE_STACK 14336
+#define SEQ_FOLLOW_STACK 19456
+#define SEQ_WRITE_STACK 75776
 #define SEQ_CHECK_STACK 50176
-#define SEQ_PROMPT_STACK 97280
+#define SEQ_PROMPT_STACK 18432
 
 /*
  * Judges a procedure file.
