@@ -29,11 +29,12 @@ CROSS_PACKAGES = "gcc-x86-64-linux-gnu,libc6-dev-amd64-cross"
 JUDGE_TARGETS = {**dict.fromkeys(["P6", "P7", "P8", "P10"], "1/5"), **dict.fromkeys(["P1", "P4"], "1/3")}
 ONE_EVENT_TARGETS = {**dict.fromkeys(["P6", "P7", "P8", "P10"], "1/3"), **dict.fromkeys(["P1", "P4"], "1/2")}
 EVENT_TARGETS = dict.fromkeys(["P3", "P6", "P7", "P9"], "1")
-# So many instructions at most, whatever libxml2 takes.
-JUDGE_LIMITS = {"P1": 1_250, "P10": 42_000}
-ONE_EVENT_LIMITS = {"P10": 62_000}
-MIDRUN_LIMITS = {"P10": 77_000}
-PROMPT_LIMITS = {"P10": 62_000}
+# So many instructions at most, whatever libxml2 takes; the largest procedure alike with codes of one word and of both.
+LARGEST = ("P10", "P10 mod 128")
+JUDGE_LIMITS = {"P1": 1_847, **dict.fromkeys(LARGEST, 56_000)}
+ONE_EVENT_LIMITS = dict.fromkeys(LARGEST, 76_000)
+MIDRUN_LIMITS = dict.fromkeys(LARGEST, 79_000)
+PROMPT_LIMITS = dict.fromkeys(LARGEST, 76_000)
 # Twice the nodes may cost so many times as much.
 DOUBLING_TARGET = "2.2"
 
@@ -42,7 +43,7 @@ HEADER = TOP / "include" / "seqp.h"
 STATED = re.compile(r"^#define SEQ_(\w+)_STACK (\d+)$", re.M)
 MOST_BEYOND = 2048
 # And so many bytes at most, where a call does not nest in the number of nodes.
-STACK_LIMITS = dict.fromkeys(["judge", "follow", "prompt"], 24_000)
+STACK_LIMITS = dict.fromkeys(["judge", "follow", "prompt"], 32_000)
 
 # libxml2's cost of a repetition settles only after the first, when its memory is used again.
 LIBXML2_REPEATS = 10
@@ -134,7 +135,7 @@ class Ours:
             return b"0 %d\n" % len(record) + record
         if call == "check":
             return b"0 1\n"
-        return b"0 %d\n" % self.laid[name].first()
+        return b"0 %d %d\n" % self.laid[name].first()
 
     def arguments(self, call, name, given):
         return file_of(name, "seqp"), file_of(name, "record" if call == "check" else "run"), given

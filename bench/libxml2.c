@@ -19,6 +19,8 @@
 
 #define UNBOUNDED (1 << 30)
 
+enum { CODES = 128 };
+
 enum kind { EMPTY, EVENT, CHOICE, SEQUENCE, REPEAT };
 
 struct bounds {
@@ -38,7 +40,7 @@ struct build {
 
 static struct node nodes[512];
 static int node_count;
-static char names[64][4];
+static char names[CODES][8];
 
 static void require(int holds, const char *what)
 {
@@ -63,7 +65,7 @@ static void decode(const struct input *file)
         nodes[i] = (struct node){record[0], record[1], field(record + 2), field(record + 4),
                                  {field(record + 4), upper}};
     }
-    for (int code = 0; code < 64; code++)
+    for (int code = 0; code < CODES; code++)
         snprintf(names[code], sizeof names[code], "e%d", code);
 }
 

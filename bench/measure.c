@@ -32,7 +32,7 @@ static uint8_t space[SPACE_BYTES];
 static _Alignas(64) uint8_t painted[STACK_BYTES];
 
 static uint32_t answer, node, kind, code, verdict, yes;
-static uint64_t taken, length, set;
+static uint64_t taken, length, low, high;
 
 static void fail(const char *why)
 {
@@ -78,7 +78,7 @@ static void check(uint8_t *state)
 
 static void prompt(uint8_t *state)
 {
-    answer = seq_prompt(file.bytes, file.length, state, SEQ_STATE_BYTES, &set);
+    answer = seq_prompt(file.bytes, file.length, state, SEQ_STATE_BYTES, &low, &high);
 }
 
 static void print_judge(void)
@@ -104,7 +104,7 @@ static void print_check(void)
 
 static void print_prompt(void)
 {
-    printf("%u %llu\n", answer, (unsigned long long)set);
+    printf("%u %llu %llu\n", answer, (unsigned long long)low, (unsigned long long)high);
 }
 
 static const struct call {

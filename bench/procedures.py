@@ -14,6 +14,9 @@ sys.setrecursionlimit(10000)
 
 BULK = 65536
 CODES = 64
+ALL_CODES = 128
+# So many codes stand in each word of a prompt.
+WORD_CODES = 64
 NO_BOUND = 65535
 KINDS = {"event": 1, "choice": 2, "sequence": 3, "repeat": 4}
 OPENING, CLOSING = 1 << 12, 2 << 12
@@ -35,8 +38,8 @@ def repeat(body, lower, upper=None):
     return ("repeat", body, lower, upper)
 
 
-def events(count):
-    return [event(i % CODES) for i in range(count)]
+def events(count, codes=CODES):
+    return [event(i % codes) for i in range(count)]
 
 
 def nested(depth):
@@ -76,6 +79,7 @@ NAMED = {
     "P8": (repeat(choice(*events(60)), 0), again([7 * i % 60 for i in range(60)], BULK)),
     "P9": (repeat(sequence(repeat(event(0), 2, 4096), event(1)), 0), again([0] * 4095 + [1], BULK)),
     "P10": (repeat(sequence(*events(256)), 0), again(range(CODES), BULK)),
+    "P10 mod 128": (repeat(sequence(*events(256, ALL_CODES)), 0), again(range(ALL_CODES), BULK)),
 }
 
 SIZES = [128, 256, 512]
@@ -164,7 +168,9 @@ class Laid:
         return True
 
     def first(self):
-        return sum(1 << code for code in self.root["first"])
+        """The codes that begin a word, as the low and the high word of a prompt."""
+        codes = sum(1 << code for code in self.root["first"])
+        return codes % (1 << WORD_CODES), codes >> WORD_CODES
 
 
 def read(part, run, at, items):

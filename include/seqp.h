@@ -38,10 +38,13 @@
 extern "C" {
 #endif
 
-/* The version of this header and of the library that it was installed with, also as text: "0.2.1". */
+/*
+ * The version of this header and of the library that it was installed with, also as text: "0.3.0". Before version 1
+ * the second number may change a call, as 0.3 did seq_prompt: what calls the library is then compiled anew.
+ */
 #define SEQ_VERSION_MAJOR 0
-#define SEQ_VERSION_MINOR 2
-#define SEQ_VERSION_PATCH 1
+#define SEQ_VERSION_MINOR 3
+#define SEQ_VERSION_PATCH 0
 #define SEQ_TEXT_OF(number) #number
 #define SEQ_TEXT(number) SEQ_TEXT_OF(number)
 #define SEQ_VERSION SEQ_TEXT(SEQ_VERSION_MAJOR) "." SEQ_TEXT(SEQ_VERSION_MINOR) "." SEQ_TEXT(SEQ_VERSION_PATCH)
@@ -147,7 +150,7 @@ enum seq_conflict {
 #define SEQ_FILE_MOST_BYTES 8204
 #define SEQ_MOST_NODES 512
 #define SEQ_MOST_REPEATS 32
-#define SEQ_MOST_CODE 63
+#define SEQ_MOST_CODE 127
 #define SEQ_MOST_RUN 65536
 
 /*
@@ -155,11 +158,11 @@ enum seq_conflict {
  * procedures that there are, 511 nodes with 32 repeats in one chain, and rounded up to whole 1,024. A signal
  * that is handled on the same stack needs its own besides.
  */
-#define SEQ_JUDGE_STACK 14336
-#define SEQ_FOLLOW_STACK 19456
-#define SEQ_WRITE_STACK 75776
+#define SEQ_JUDGE_STACK 22528
+#define SEQ_FOLLOW_STACK 27648
+#define SEQ_WRITE_STACK 83968
 #define SEQ_CHECK_STACK 50176
-#define SEQ_PROMPT_STACK 18432
+#define SEQ_PROMPT_STACK 27648
 
 /*
  * Judges a procedure file.
@@ -174,7 +177,7 @@ uint32_t seq_judge(const uint8_t *file, size_t file_len, uint32_t *node, uint32_
  * Answers 0 to 8. *taken is how many events were taken, *verdict an enum seq_verdict on the run that
  * reached the given state followed by the events given. With answer 0 the state stands after the events
  * taken, also on a break; a break is not kept in it, so a later call goes on from there. With no events
- * the call reports on the state given and leaves it. The number of events is not limited. A code above 63
+ * the call reports on the state given and leaves it. The number of events is not limited. A code above 127
  * never continues. Note that *verdict is 0 on a refusal too: look at the answer first.
  */
 SEQ_LOOK_AT
@@ -201,15 +204,23 @@ uint32_t seq_check(const uint8_t *file, size_t file_len, const uint8_t *record, 
                    uint32_t *yes);
 
 /*
- * Prompts the operator: the codes that can come next, as a set.
- * Answers 0 to 8. Bit c of *set is 1 exactly if code c can come next: at the start the codes that begin a
- * word, else those of the event nodes that can directly follow the node reached, where a repeat whose upper
- * bound is at least 2, or that has none, may end and go on after every block, whatever its count. The state
- * is only read.
+ * Prompts the operator: the codes that can come next, as a set in two words.
+ * Answers 0 to 8. Bit c of *low is 1 exactly if code c can come next, for c from 64 on bit c - 64 of *high; both
+ * words are 0 on a refusal. What can come next are at the start the codes that begin a word, else those of the
+ * event nodes that can directly follow the node reached, where a repeat whose upper bound is at least 2, or that
+ * has none, may end and go on after every block, whatever its count. The state is only read.
  */
 SEQ_LOOK_AT
 uint32_t seq_prompt(const uint8_t *file, size_t file_len, const uint8_t *state, size_t state_len,
-                    uint64_t *set);
+                    uint64_t *low, uint64_t *high);
+
+/* Whether a set in two words has the code: 1 or 0, and 0 for a code above 127, for which no word has a bit. */
+static inline int seq_has_code(uint64_t low, uint64_t high, uint32_t code)
+{
+    if (code > SEQ_MOST_CODE)
+        return 0;
+    return (int)((code < 64 ? low >> code : high >> (code - 64)) & 1);
+}
 
 #ifdef __cplusplus
 }

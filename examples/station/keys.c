@@ -61,13 +61,13 @@ void print_key(const struct keys *keys, unsigned code)
     }
 }
 
-void print_keys(const struct keys *keys, uint64_t set)
+void print_keys(const struct keys *keys, struct lit lit)
 {
     const char *before = "";
-    if (set == 0)
+    if (lit.low == 0 && lit.high == 0)
         printf("none");
     for (unsigned code = 0; code < KEYS; code++)
-        if (set >> code & 1) {
+        if (seq_has_code(lit.low, lit.high, code)) {
             printf("%s", before);
             print_key(keys, code);
             before = ", ";

@@ -14,9 +14,14 @@ struct keys {
     } names[KEYS];
 };
 
+/* The keys that are lit, as the library gives them: 0 to 63 as bits of the first word, the others of the second. */
+struct lit {
+    uint64_t low, high;
+};
+
 void read_keys(const struct procedure *p, struct keys *keys);
 void print_key(const struct keys *keys, unsigned code);
-void print_keys(const struct keys *keys, uint64_t set);
+void print_keys(const struct keys *keys, struct lit lit);
 
 /* The free text, in plain ASCII. */
 void print_text(const struct procedure *p);

@@ -150,26 +150,27 @@ void expect_check(struct tally *t, const char *name, struct slice file, struct s
     }
 }
 
-static void prompt_once(struct tally *t, struct slice file, struct slice state, uint32_t answer, uint64_t set,
+static void prompt_once(struct tally *t, struct slice file, struct slice state, uint32_t answer, struct codes lit,
                         enum side side)
 {
-    struct lent lent[3];
+    struct lent lent[4];
     lent[0] = lend_slice(file, side);
     lent[1] = lend_slice(state, side);
-    uint64_t *given = result_64(&lent[2], side);
+    uint64_t *low = result_64(&lent[2], side), *high = result_64(&lent[3], side);
 
     expect_number(t, "the answer",
-                  seq_prompt(lent[0].bytes, lent[0].length, lent[1].bytes, lent[1].length, given), answer);
-    expect_number(t, "the set", *given, set);
-    take_back_all(lent, 3);
+                  seq_prompt(lent[0].bytes, lent[0].length, lent[1].bytes, lent[1].length, low, high), answer);
+    expect_number(t, "the low word", *low, lit.low);
+    expect_number(t, "the high word", *high, lit.high);
+    take_back_all(lent, 4);
 }
 
 void expect_prompt(struct tally *t, const char *name, struct slice file, struct slice state, uint32_t answer,
-                   uint64_t set)
+                   struct codes lit)
 {
     for (int i = 0; i < SIDES; i++) {
         begin_case(t, "prompt, %s, slices %s", name, side_name(sides[i]));
-        prompt_once(t, file, state, answer, set, sides[i]);
+        prompt_once(t, file, state, answer, lit, sides[i]);
         end_case(t);
     }
 }

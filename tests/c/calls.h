@@ -28,6 +28,11 @@ struct followed {
     uint32_t verdict;
 };
 
+/* A set of codes: 0 to 63 as the bits of the first word, 64 to 127 as those of the second. */
+struct codes {
+    uint64_t low, high;
+};
+
 void expect_judge(struct tally *t, const char *name, struct slice file, struct judgement wanted);
 
 /* The state afterwards has the length of the state before. */
@@ -42,6 +47,6 @@ void expect_check(struct tally *t, const char *name, struct slice file, struct s
                   uint32_t yes);
 
 void expect_prompt(struct tally *t, const char *name, struct slice file, struct slice state, uint32_t answer,
-                   uint64_t set);
+                   struct codes lit);
 
 #endif

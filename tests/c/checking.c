@@ -50,6 +50,11 @@ static const struct check_case {
     /* a record does not name its procedure: two nodes and no more are the record of a run of each */
     {"#1#2", 1, 2, {0, 1}},
     {"#7#9", 1, 2, {0, 1}},
+    {"#64#127", 1, 2, {0, 1}},
+    /* codes of both words, and a conflict between them */
+    {"(#63+#127)#64{0,2}", 1, 4, {1, 4100, 3, 8196}},
+    {"(#63+#127)#64{0,2}", 0, 4, {0, 4099, 3, 8195}},
+    {"#127+#127#64", 1, 2, {1, 2}},
 };
 enum { CHECKS = sizeof checks / sizeof checks[0] };
 

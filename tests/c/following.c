@@ -52,6 +52,13 @@ static const struct run_case {
     {"a{1,2}b{1,2}", "aabb", 4, SEQ_COMPLETE, {3, {0, 2}}},
     {"(a{0,2}+b)c", "bc", 2, SEQ_COMPLETE, {5, {0}}},
     {"(a{0,2}+b)c", "c", 1, SEQ_COMPLETE, {5, {0}}},
+    /* codes of both words */
+    {"#63#64#127", "#63#64#127", 3, SEQ_COMPLETE, {4, {0}}},
+    {"#63#64#127", "#63#0", 1, SEQ_BROKEN, {1, {0}}},
+    {"#63#64#127", "#63#64#63", 2, SEQ_BROKEN, {2, {0}}},
+    {"(#63+#64+#127){0,}", "#64#63#127#128#63", 3, SEQ_BROKEN, {4, {1}}},
+    {"(#63+#64+#127){0,}", "#127#63#64#255", 3, SEQ_BROKEN, {2, {1}}},
+    {"#127{2,4}", "#127#127#127#127#127", 4, SEQ_BROKEN, {1, {4}}},
 };
 enum { RUNS = sizeof runs / sizeof runs[0] };
 
@@ -100,16 +107,16 @@ static void follow_runs(struct tally *t)
     }
 }
 
-/* A code above 63 never continues, and the events before it are taken. */
+/* A code above 127 never continues, and the events before it are taken. */
 static void follow_high_codes(struct tally *t)
 {
-    static const uint8_t start[SEQ_STATE_BYTES], events[] = {0, 64}, high[] = {255};
+    static const uint8_t start[SEQ_STATE_BYTES], events[] = {0, 128}, high[] = {255};
     const struct state one = {1, {1}};
     struct procedure p = procedure_of("a{0,}");
     const struct slice file = {p.bytes, p.length}, from_start = {start, sizeof start};
     uint8_t after[SEQ_STATE_BYTES];
     state_bytes(&one, after);
-    expect_follow(t, "code 64", file, from_start, (struct slice){events, 2},
+    expect_follow(t, "code 128", file, from_start, (struct slice){events, 2},
                   (struct followed){SEQ_DONE, 1, SEQ_BROKEN}, after);
     expect_follow(t, "code 255", file, from_start, (struct slice){high, 1},
                   (struct followed){SEQ_DONE, 0, SEQ_BROKEN}, start);
@@ -168,7 +175,7 @@ static void expect_state_refused(struct tally *t, const char *name, const struct
     const struct slice file = {p->bytes, p->length};
     expect_follow(t, name, file, state, (struct slice){events, 1}, (struct followed){SEQ_STATE, 0, 0}, state.bytes);
     expect_follow(t, name, file, state, (struct slice){events, 0}, (struct followed){SEQ_STATE, 0, 0}, state.bytes);
-    expect_prompt(t, name, file, state, SEQ_STATE, 0);
+    expect_prompt(t, name, file, state, SEQ_STATE, (struct codes){0, 0});
 }
 
 static void refuse_states(struct tally *t)

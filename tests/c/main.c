@@ -16,12 +16,13 @@ static const struct section {
 } sections[] = {
     {"the unreachable pages", lending, 0},
     {"files that every call refuses", refusing, 1},
-    {"the header's words", words, 1},
+    {"the header's words and sets", words, 1},
     {"judge", judging, 1},
     {"follow", following, 1},
     {"write", writing, 1},
     {"check", checking, 1},
     {"prompt", prompting, 1},
+    {"every code", every_code, 1},
     {"chains of 512 nodes", chains, 1},
     {"records of 8 MB", full_size, 0},
 };

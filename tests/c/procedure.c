@@ -41,6 +41,17 @@ static unsigned number(struct reader *r)
     return (unsigned)value;
 }
 
+/* The code of an event whose sign is taken. One that is no byte would show as another code. */
+static uint8_t code_of(struct reader *r, char sign)
+{
+    const unsigned code = sign == '#' ? number(r) : (unsigned)(sign - 'a');
+    if (code > (sign == '#' ? UINT8_MAX : 'z' - 'a')) {
+        fprintf(stderr, "a procedure or a run of the tests has what is no event before \"%s\"\n", r->at);
+        exit(2);
+    }
+    return (uint8_t)code;
+}
+
 static void take(struct reader *r, char sign)
 {
     if (*r->at != sign) {
@@ -62,7 +73,7 @@ static unsigned single(struct reader *r)
     }
     if (sign == 'e')
         return add(r, EMPTY, 0, 0, 0, 0);
-    return add(r, EVENT, sign == '#' ? number(r) : (unsigned)(sign - 'a'), 0, 0, 0);
+    return add(r, EVENT, code_of(r, sign), 0, 0, 0);
 }
 
 static unsigned repeated(struct reader *r)
@@ -147,10 +158,13 @@ uint8_t *trailer_of(struct procedure *p, unsigned at)
     return p->bytes + p->length - TRAILER_BYTES + at;
 }
 
-size_t run_of(const char *letters, uint8_t *codes)
+size_t run_of(const char *notation, uint8_t *codes)
 {
+    struct reader r = {notation, NULL};
     size_t length = 0;
-    for (; letters[length] != '\0'; length++)
-        codes[length] = (uint8_t)(letters[length] - 'a');
+    while (*r.at != '\0') {
+        char sign = *r.at++;
+        codes[length++] = code_of(&r, sign);
+    }
     return length;
 }

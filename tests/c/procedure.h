@@ -1,6 +1,6 @@
 /*
- * Procedure files for the tests, from the request's own notation: events a to z without e, or #N for code N;
- * e is empty; + is choice; parts side by side are a sequence; {k,l} or {k,} after a part is a repeat.
+ * Procedure files for the tests, from the request's own notation: events a to z without e, or #N for code N, which
+ * may be any byte; e is empty; + is choice; parts side by side are a sequence; {k,l} or {k,} after a part is a repeat.
  */
 #ifndef PROCEDURE_H
 #define PROCEDURE_H
@@ -34,7 +34,7 @@ uint8_t *field_of(struct procedure *p, unsigned node, unsigned field);
 /* Where byte number `at` of the trailer stands. */
 uint8_t *trailer_of(struct procedure *p, unsigned at);
 
-/* The codes of a run that is written in letters; gives how many. */
-size_t run_of(const char *letters, uint8_t *codes);
+/* The codes of a run that is written in the same letters and numbers; gives how many. */
+size_t run_of(const char *notation, uint8_t *codes);
 
 #endif

@@ -8,25 +8,42 @@
 
 enum { A = 1, B = 2, C = 4 };
 
+/* The bit of a code in its word. */
+#define LOW(code) (UINT64_C(1) << (code))
+#define HIGH(code) (UINT64_C(1) << ((code) - 64))
+
 static const struct prompt_case {
     const char *procedure;
     struct state state;
-    uint64_t set;
+    struct codes lit;
 } prompts[] = {
-    {"a{2,4}", {0, {0}}, A},
-    {"a{2,4}", {1, {1}}, A},
-    {"a{2,4}", {1, {4}}, A},
-    {"a{2,2}b", {0, {0}}, A},
-    {"a{2,2}b", {1, {1}}, A | B},
-    {"a{2,2}b", {1, {2}}, A | B},
-    {"a{2,2}b", {3, {0}}, 0},
-    {"a{1,1}b", {1, {1}}, B},
-    {"(a+e)(b+e)c", {0, {0}}, A | B | C},
-    {"(ab){1,2}", {2, {1}}, A},
-    {"(a+e){3,3}", {0, {0}}, A},
-    {"e", {0, {0}}, 0},
-    {"#63{0,}", {0, {0}}, UINT64_C(1) << 63},
-    {"#63{0,}", {1, {1}}, UINT64_C(1) << 63},
+    {"a{2,4}", {0, {0}}, {A, 0}},
+    {"a{2,4}", {1, {1}}, {A, 0}},
+    {"a{2,4}", {1, {4}}, {A, 0}},
+    {"a{2,2}b", {0, {0}}, {A, 0}},
+    {"a{2,2}b", {1, {1}}, {A | B, 0}},
+    {"a{2,2}b", {1, {2}}, {A | B, 0}},
+    {"a{2,2}b", {3, {0}}, {0, 0}},
+    {"a{1,1}b", {1, {1}}, {B, 0}},
+    {"(a+e)(b+e)c", {0, {0}}, {A | B | C, 0}},
+    {"(ab){1,2}", {2, {1}}, {A, 0}},
+    {"(a+e){3,3}", {0, {0}}, {A, 0}},
+    {"e", {0, {0}}, {0, 0}},
+    /* one word alone, at both of its ends */
+    {"#63{0,}", {0, {0}}, {LOW(63), 0}},
+    {"#63{0,}", {1, {1}}, {LOW(63), 0}},
+    {"#64{0,}", {0, {0}}, {0, HIGH(64)}},
+    {"#64{0,}", {1, {1}}, {0, HIGH(64)}},
+    {"#127{0,}", {0, {0}}, {0, HIGH(127)}},
+    {"#127{0,}", {1, {1}}, {0, HIGH(127)}},
+    /* both words */
+    {"a+#63+#64+#127", {0, {0}}, {A | LOW(63), HIGH(64) | HIGH(127)}},
+    {"(a+#64)(b+#127)", {0, {0}}, {A, HIGH(64)}},
+    {"(a+#64)(b+#127)", {1, {0}}, {B, HIGH(127)}},
+    {"(a+#64)(b+#127)", {2, {0}}, {B, HIGH(127)}},
+    {"(a+#64)(b+#127)", {5, {0}}, {0, 0}},
+    {"#63{2,3}#64{2,3}#127", {1, {1}}, {LOW(63), HIGH(64)}},
+    {"#63{2,3}#64{2,3}#127", {3, {0, 1}}, {0, HIGH(64) | HIGH(127)}},
 };
 enum { PROMPTS = sizeof prompts / sizeof prompts[0] };
 
@@ -40,6 +57,6 @@ void prompting(struct tally *t)
         snprintf(name, sizeof name, "%s with state %u, %u ..", prompts[i].procedure, prompts[i].state.reached,
                  prompts[i].state.counters[0]);
         expect_prompt(t, name, (struct slice){p.bytes, p.length}, (struct slice){state, sizeof state}, SEQ_DONE,
-                      prompts[i].set);
+                      prompts[i].lit);
     }
 }

@@ -20,7 +20,7 @@ static void expect_refused(struct tally *t, const char *name, const struct proce
     expect_follow(t, name, file, (struct slice){start, sizeof start}, (struct slice){run, 1}, refused, start);
     expect_follow(t, name, file, (struct slice){junk, sizeof junk}, none, refused, junk);
     expect_write(t, name, file, (struct slice){run, 1}, SPACE, wanted.answer, none);
-    expect_prompt(t, name, file, (struct slice){start, sizeof start}, wanted.answer, 0);
+    expect_prompt(t, name, file, (struct slice){start, sizeof start}, wanted.answer, (struct codes){0, 0});
     if (wanted.answer != SEQ_CONFLICT)
         expect_check(t, name, file, (struct slice){record, sizeof record}, wanted.answer, 0);
 }
@@ -95,8 +95,10 @@ static const struct node_case {
 } nodes[] = {
     {"a", 0, 0, 5, 4, 0},
     {"a", 0, 0, 255, 4, 0},
-    {"a", 0, 0, 1 + 256 * 64, 4, 0},
+    {"a", 0, 0, 1 + 256 * 128, 4, 0},
+    {"a", 0, 0, 1 + 256 * 192, 4, 0},
     {"a", 0, 0, 1 + 256 * 255, 4, 0},
+    {"#127#127", 1, 0, 1 + 256 * 128, 4, 1},
     {"a", 0, 1, 1, 4, 0},
     {"a", 0, 2, 256, 4, 0},
     {"a", 0, 3, 65535, 4, 0},
@@ -183,6 +185,8 @@ static void refuse_conflicts(struct tally *t)
         {"a{0,2}a", {7, 3, 2, 0}},
         {"a{2,3}a", {7, 3, 3, 0}},
         {"(a{1,2}){3,4}", {7, 2, 4, 0}},
+        {"#64+#64#127", {7, 4, 1, 64}},
+        {"#127{2,3}#127", {7, 3, 3, 127}},
     };
     for (size_t i = 0; i < sizeof conflicts / sizeof conflicts[0]; i++) {
         struct procedure p = procedure_of(conflicts[i].procedure);

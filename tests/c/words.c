@@ -1,11 +1,14 @@
-/* The header's words for the answers, each with its own, and the version as text and as numbers. */
+/*
+ * What the header itself has: the words for the answers, each with its own, codes looked up in a set of two words, and
+ * the version as text and as numbers.
+ */
 #include <stdio.h>
 #include <string.h>
 
 #include "sections.h"
 #include "seqp.h"
 
-enum { ANSWERS = SEQ_SPACE + 1 };
+enum { ANSWERS = SEQ_SPACE + 1, WORD_CODES = 64 };
 
 static void expect_other_words(struct tally *t, uint32_t answer, uint32_t other)
 {
@@ -19,6 +22,29 @@ static void expect_no_answer(struct tally *t, uint32_t number)
 {
     begin_case(t, "the words of %u, which is no answer", (unsigned)number);
     expect_number(t, "equal", strcmp(seq_answer_words(number), seq_answer_words(UINT32_MAX)) == 0, 1);
+    end_case(t);
+}
+
+/* A set of one code has that one and no other. */
+static void expect_one_code(struct tally *t, uint32_t code)
+{
+    const uint64_t bit = UINT64_C(1) << code % WORD_CODES;
+    const int is_low = code < WORD_CODES;
+    begin_case(t, "the set of code %u", (unsigned)code);
+    for (uint32_t other = 0; other <= UINT8_MAX; other++)
+        expect_number(t, "had", (unsigned)seq_has_code(is_low ? bit : 0, is_low ? 0 : bit, other), other == code);
+    end_case(t);
+}
+
+/* Two full words have a bit for the codes up to the highest, and none above. */
+static void expect_all_codes(struct tally *t)
+{
+    static const uint32_t none[] = {SEQ_MOST_CODE + 1, 191, 192, 255, 256, UINT32_MAX};
+    begin_case(t, "the set of all codes");
+    for (uint32_t code = 0; code <= SEQ_MOST_CODE; code++)
+        expect_number(t, "had", (unsigned)seq_has_code(UINT64_MAX, UINT64_MAX, code), 1);
+    for (size_t i = 0; i < sizeof none / sizeof none[0]; i++)
+        expect_number(t, "had", (unsigned)seq_has_code(UINT64_MAX, UINT64_MAX, none[i]), 0);
     end_case(t);
 }
 
@@ -39,5 +65,8 @@ void words(struct tally *t)
             expect_other_words(t, answer, other);
     }
     expect_no_answer(t, ANSWERS);
+    for (uint32_t code = 0; code <= SEQ_MOST_CODE; code++)
+        expect_one_code(t, code);
+    expect_all_codes(t);
     expect_version(t);
 }

@@ -21,6 +21,8 @@ static const struct record_case {
     {"a+b", "b", 1, {1}},
     {"(a{0,1}){0,3}", "aa", 10, {4098, 4097, 0, 8193, 8194, 4098, 4097, 0, 8193, 8194}},
     {"(eb{0,1}){0,2}", "b", 5, {4100, 4098, 1, 8194, 8196}},
+    {"#63#64#127", "#63#64#127", 3, {0, 1, 3}},
+    {"(#64+#127){1,2}", "#127#64", 6, {4099, 1, 8195, 4099, 0, 8195}},
 };
 enum { RECORDS = sizeof records / sizeof records[0] };
 
@@ -57,15 +59,19 @@ static void refuse_runs(struct tally *t)
     }
 }
 
-/* 10 stands before 11. */
-static void refuse_high_code(struct tally *t)
+/* A run is no word with a code that no event may have, nor with another event's. 10 stands before 11. */
+static void refuse_codes(struct tally *t)
 {
-    static const uint8_t run[] = {0, 64};
+    static const uint8_t codes[] = {63, 64, 127, 128, 255};
     struct procedure p = procedure_of("a{0,}");
-    expect_write(t, "code 64", (struct slice){p.bytes, p.length}, (struct slice){run, 2}, 64, SEQ_RUN_INCOMPLETE,
-                 (struct slice){run, 0});
-    expect_write(t, "code 64, no space", (struct slice){p.bytes, p.length}, (struct slice){run, 2}, 0,
-                 SEQ_RUN_INCOMPLETE, (struct slice){run, 0});
+    const struct slice file = {p.bytes, p.length};
+    for (size_t i = 0; i < sizeof codes; i++) {
+        const uint8_t run[] = {0, codes[i]};
+        char name[40];
+        snprintf(name, sizeof name, "code %u", codes[i]);
+        expect_write(t, name, file, (struct slice){run, 2}, 64, SEQ_RUN_INCOMPLETE, (struct slice){run, 0});
+        expect_write(t, name, file, (struct slice){run, 2}, 0, SEQ_RUN_INCOMPLETE, (struct slice){run, 0});
+    }
 }
 
 void writing(struct tally *t)
@@ -73,5 +79,5 @@ void writing(struct tally *t)
     for (int i = 0; i < RECORDS; i++)
         write_and_check(t, &records[i]);
     refuse_runs(t);
-    refuse_high_code(t);
+    refuse_codes(t);
 }

@@ -83,11 +83,13 @@ fn answer_check(file: &mut [u8], bytes: &mut [u8]) -> bool {
 fn answer_prompt(file: &mut [u8], state: &mut [u8]) -> bool {
     let length = read_slice(file);
     let held = read_slice(state);
-    let mut set = WIDE_JUNK;
-    let answer = seqp::seq_prompt(&file[..length], &state[..held], &mut set);
+    let mut low = WIDE_JUNK;
+    let mut high = WIDE_JUNK;
+    let answer = seqp::seq_prompt(&file[..length], &state[..held], &mut low, &mut high);
     io::write_all(STDOUT_FILENO, b"P");
     print_number(answer as u64);
-    print_number(set);
+    print_number(low);
+    print_number(high);
     print_end()
 }
 

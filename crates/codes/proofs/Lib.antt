@@ -1,3 +1,4 @@
--- The laws that belong to no one function: `Members` for whoever uses a set, the others for the proofs of this crate.
-pub mod Members
+-- The laws that belong to no one function: `Pairs` for whoever hands the words of a set out, the others for the proofs of this crate.
+mod Members
+pub mod Pairs
 mod Trailing

@@ -1,20 +1,15 @@
--- The laws of membership, by which a caller reasons about sets of codes with `Has` shut. Assumes nothing.
+-- What is in the numbers that the functions on words make: of one word and of a set of two words alike. Assumes nothing.
 use mathlib.Core.Logic.{_↔_, _⊎_, inl, inr, ⊎-elim}
 use mathlib.Core.Path.{_≡_, sym, subst}
 use Prim.Native.Nat.{ℕ, suc, _-_, _/_, _%_, _^_, _≤_, _<_}
 use native.Mathlib.Decide.{decLe}
-use native.Mathlib.Nat.{le-antisymm, lt-of-lt-of-le, zero-div}
+use native.Mathlib.Nat.{le-antisymm}
 use native.Mathlib.Omega.{arith}
-use lib.Pow.{pow-lt, pow-mono}
-use Rattle.codes.specs.Codes.{WithinLimit, Codes, Has, Shared, both, either, limit, nothing, only}
+use lib.Pow.{pow-lt}
+use Rattle.meaning.specs.Codes.{Has}
+use Rattle.codes.specs.Codes.{both, either, only}
 use Rattle.meaning.proofs.general.Digits.{digit-of-and, digit-of-or, digit-of-power, digit-past, digit-under-power}
 use Rattle.meaning.proofs.general.CodeSets.{has-or-not}
-
--- ---- which codes are in a set
-
-pub nothing-has : (c : ℕ) → ¬ Has nothing c
-unfolding Has nothing
-nothing-has c h = omega (arith, zero-div (2 ^ c))
 
 pub only-has : (c d : ℕ) → Has (only c) d ↔ (d ≡ c)
 unfolding Has only
@@ -32,7 +27,7 @@ only-has c d =
     same h (yes p) (no q) = absurd (omega (arith, above (omega arith)))
     same h (no p) q = absurd (omega (arith, below (omega arith)))
 
-pub either-has : (a b : Codes) (c : ℕ) → Has (either a b) c ↔ (Has a c ⊎ Has b c)
+pub either-has : (a b c : ℕ) → Has (either a b) c ↔ (Has a c ⊎ Has b c)
 unfolding Has either
 either-has a b c = let e = digit-of-or a b c in (λ h. other h (has-or-not a c), ⊎-elim (λ p. omega arith) (λ q. omega arith))
   where
@@ -40,16 +35,6 @@ either-has a b c = let e = digit-of-or a b c in (λ h. other h (has-or-not a c),
     other h (inl p) = inl p
     other h (inr n) = inr (omega (arith, digit-of-or a b c))
 
-pub both-has : (a b : Codes) (c : ℕ) → Has (both a b) c ↔ Shared a b c
+pub both-has : (a b c : ℕ) → Has (both a b) c ↔ (Has a c × Has b c)
 unfolding Has both
 both-has a b c = let e = digit-of-and a b c in (λ h. (omega arith, omega arith), λ p. omega arith)
-
--- ---- what is in a set is a code
-
-pub has-below : (s : Codes) (c : ℕ) → WithinLimit s → Has s c → c < limit
-unfolding Has
-has-below s c w h = below (decLe limit c)
-  where
-    below : Dec (limit ≤ c) → c < limit
-    below (yes l) = absurd (omega (arith, digit-past s c (lt-of-lt-of-le w (pow-mono l))))
-    below (no l) = omega arith

@@ -1,17 +1,13 @@
--- The trailing zeros of a set are its lowest code, where it has one. Assumes nothing.
-use mathlib.Core.Logic.{_⊎_, inl, inr, ⊎-elim}
+-- The trailing zeros of a word are the lowest that is in it, where something is. Assumes nothing.
+use mathlib.Core.Logic.{inl, inr}
 use mathlib.Core.Path.{_≡_, refl, ap}
 use Prim.Native.Nat.{ℕ, zero, suc, _/_, _%_, _≤_, _<_, suc-le-suc, zero-le}
 use native.Mathlib.Nat.{not-suc-le-zero, le-of-suc-le-suc, zero-lt-suc}
 use native.Mathlib.Omega.{arith}
 use lib.Count.{trailingZeros, under}
-use Rattle.codes.specs.Codes.{WithinLimit, Has, Least, LowestIn, limit}
+use Rattle.meaning.specs.Codes.{Has}
+use Rattle.codes.specs.Codes.{LeastBelow}
 use Rattle.meaning.proofs.general.Digits.{digit-lowest, digit-up}
-use Rattle.codes.proofs.Members.{has-below}
-
--- t is the lowest code in s, and is below k; or none of the codes below k is in s, and t is k
-abbrev LeastBelow : ℕ → ℕ → ℕ → Type 0
-LeastBelow k s t = (Least (Has s) t × (t < k)) ⊎ (((c : ℕ) → c < k → ¬ Has s c) × (t ≡ k))
 
 has-zero : (s : ℕ) → Has s zero → s % 2 ≡ 1
 unfolding Has
@@ -27,7 +23,7 @@ unfolding Has
 has-twice s c h = rw digit-up h
 
 -- the lowest digit is 0: what is found is found in the half, one higher
-past-even : (k s t : ℕ) → s % 2 ≡ 0 → LeastBelow k (s / 2) t → LeastBelow (suc k) s (suc t)
+past-even : (k s t : ℕ) → s % 2 ≡ 0 → LeastBelow k (Has (s / 2)) t → LeastBelow (suc k) (Has s) (suc t)
 past-even k s t e (inl p) = inl (record { holds = has-twice s t (p .0 .holds); lowest = least }, suc-le-suc (p .1))
   where
     least : (d : ℕ) → Has s d → suc t ≤ d
@@ -40,16 +36,13 @@ past-even k s t e (inr p) = inr (empty, ap suc (p .1))
     empty (suc c) l h = p .0 c (le-of-suc-le-suc l) (has-half s c h)
 
 -- by the lowest digit, given what is found in the half
-from-half : (k s t r : ℕ) → s % 2 ≡ r → LeastBelow k (s / 2) t → LeastBelow (suc k) s (under r t)
+from-half : (k s t r : ℕ) → s % 2 ≡ r → LeastBelow k (Has (s / 2)) t → LeastBelow (suc k) (Has s) (under r t)
 unfolding Has
 from-half k s t zero e p = past-even k s t e p
 from-half k s t (suc r) e p =
     inl (record { holds = rw digit-lowest (omega arith); lowest = λ d h. zero-le }, zero-lt-suc k)
 
-found : (k s : ℕ) → LeastBelow k s (trailingZeros k s)
+pub trailing-lowest : (k s : ℕ) → LeastBelow k (Has s) (trailingZeros k s)
 unfolding trailingZeros
-found zero s = inr (λ c l. absurd (not-suc-le-zero l), refl)
-found (suc k) s = from-half k s (trailingZeros k (s / 2)) (s % 2) refl (found k (s / 2))
-
-pub trailing-lowest : (s : ℕ) → WithinLimit s → LowestIn s (trailingZeros limit s)
-trailing-lowest s w = ⊎-elim inl (λ p. inr (λ c h. p .0 c (has-below s c w h) h, p .1)) (found limit s)
+trailing-lowest zero s = inr (λ c l. absurd (not-suc-le-zero l), refl)
+trailing-lowest (suc k) s = from-half k s (trailingZeros k (s / 2)) (s % 2) refl (trailing-lowest k (s / 2))

@@ -1,68 +1,88 @@
-// Sets of codes, as 64 bits: code c is in a set where bit c is 1.
-// A contract says which codes are in the result, and then names the set (`specs/Codes.antt`).
+// Sets of codes, as two words: codes 0 to 63 in the first, the low word, and the others, less 64, in the second, the high word.
+// A contract says which codes are in the result (`specs/Codes.antt`).
 ghost use mathlib.Core.Bool.{So, true};
 ghost use mathlib.Core.Logic.{_↔_, _⊎_};
 ghost use mathlib.Core.Path.{_≡_};
 ghost use Prim.Native.Nat.{ℕ, _<_};
-ghost use Rattle.codes.specs.Codes.{Has, LowestIn, Shared, both, either, limit, nothing, only};
+ghost use Rattle.codes.specs.Codes.{Contains, LowestIn, OneWord, Shared, highOf, limit, lowOf};
+
+mod word; // word.rt: one word
 
 // Every code is below this.
-pub const LIMIT: u32 = 64;
+pub const LIMIT: u32 = 2 * word::BITS;
 
 // The set with no code.
-pub fn none() -> u64
-    ensures { λ r. ⌜ ((c : ℕ) → ¬ Has r c) ⌝ }
-    ensures { λ r. ⌜ r ≡ nothing ⌝ }
+pub fn none() -> [u64; 2]
+    ensures { λ r. ⌜ ((c : ℕ) → ¬ Contains r c) ⌝ }
 {
-    0
+    [0, 0]
 }
 
 // The set with this code alone.
-pub fn one(code: u32) -> u64
+pub fn one(code: u32) -> [u64; 2]
     requires { ⌜ code < limit ⌝ }
-    ensures { λ r. ⌜ ((c : ℕ) → Has r c ↔ (c ≡ code)) ⌝ }
-    ensures { λ r. ⌜ r ≡ only code ⌝ }
+    ensures { λ r. ⌜ ((c : ℕ) → Contains r c ↔ (c ≡ code)) ⌝ }
 {
-    1 << code
+    if code < word::BITS {
+        return [word::one(code), 0];
+    }
+    [0, word::one(code - word::BITS)]
 }
 
 // The codes of either set.
-pub fn union(a: u64, b: u64) -> u64
-    ensures { λ r. ⌜ ((c : ℕ) → Has r c ↔ (Has a c ⊎ Has b c)) ⌝ }
-    ensures { λ r. ⌜ r ≡ either a b ⌝ }
+pub fn union(a: [u64; 2], b: [u64; 2]) -> [u64; 2]
+    ensures { λ r. ⌜ ((c : ℕ) → Contains r c ↔ (Contains a c ⊎ Contains b c)) ⌝ }
 {
-    a | b
+    [word::union(a[0], b[0]), word::union(a[1], b[1])]
 }
 
 // The codes that are in both sets.
-pub fn shared(a: u64, b: u64) -> u64
-    ensures { λ r. ⌜ ((c : ℕ) → Has r c ↔ Shared a b c) ⌝ }
-    ensures { λ r. ⌜ r ≡ both a b ⌝ }
+pub fn shared(a: [u64; 2], b: [u64; 2]) -> [u64; 2]
+    ensures { λ r. ⌜ ((c : ℕ) → Contains r c ↔ Shared a b c) ⌝ }
 {
-    a & b
+    [word::shared(a[0], b[0]), word::shared(a[1], b[1])]
 }
 
 // Whether this code, which may be any number, is in the set.
-pub fn has(s: u64, code: u32) -> bool
-    ensures { λ r. ⌜ (r ≡ true) ↔ Has s code ⌝ }
+pub fn has(s: [u64; 2], code: u32) -> bool
+    ensures { λ r. ⌜ (r ≡ true) ↔ Contains s code ⌝ }
 {
-    if code < LIMIT {
-        (s >> code) % 2 == 1
-    } else {
-        false
+    // Asked for any code, since it tells that one word holds the first.
+    let low = word::has(s[0], code);
+    if code < word::BITS {
+        return low;
     }
+    word::has(s[1], code - word::BITS)
 }
 
 // The lowest code of the set, or LIMIT where it has none.
-pub fn lowest(s: u64) -> u32
+pub fn lowest(s: [u64; 2]) -> u32
     ensures { λ r. ⌜ LowestIn s r ⌝ }
 {
-    u64::trailing_zeros(s)
+    let low = word::lowest(s[0]);
+    if low < word::BITS {
+        return low;
+    }
+    word::BITS + word::lowest(s[1])
 }
 
 // Whether the set has a code.
-pub fn any(s: u64) -> bool
-    ensures { λ r. ⌜ So r ↔ ((c : ℕ) × Has s c) ⌝ }
+pub fn any(s: [u64; 2]) -> bool
+    ensures { λ r. ⌜ So r ↔ ((c : ℕ) × Contains s c) ⌝ }
 {
-    lowest(s) < LIMIT
+    word::lowest(word::union(s[0], s[1])) < word::BITS
+}
+
+// The low word.
+pub fn low(s: [u64; 2]) -> u64
+    ensures { λ r. ⌜ (r ≡ lowOf s) × OneWord r ⌝ }
+{
+    word::itself(s[0])
+}
+
+// The high word.
+pub fn high(s: [u64; 2]) -> u64
+    ensures { λ r. ⌜ (r ≡ highOf s) × OneWord r ⌝ }
+{
+    word::itself(s[1])
 }

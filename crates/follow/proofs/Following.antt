@@ -33,7 +33,7 @@ follows-went f state events after e r a (unreached none) = Follows.unreached e a
 follows-went f state events after e r a (went k j t v s b g at) = going-follows f state events e k j t v a s b g at
 
 -- of an admitted file, and its tables
-pub follows-entered : {f nodes starts : List ℕ} {nulls : List Bool} {list firsts : List ℕ} {n r : ℕ} {state events after : List ℕ} {x : FollowAnswer}
+pub follows-entered : {f nodes starts : List ℕ} {nulls : List Bool} {list : List ℕ} {firsts : List (List ℕ)} {n r : ℕ} {state events after : List ℕ} {x : FollowAnswer}
     → Entered f nodes starts nulls list firsts n r → ((e : Expr) → Tables nodes starts nulls list n r e → Went e state events x after)
     → Follows f state events x after
 follows-entered o went-on = follows-went _ _ _ _ (o .filled .expr) _ (o .admitted) (went-on (o .filled .expr) (o .filled .tables))

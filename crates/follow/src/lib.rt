@@ -14,7 +14,7 @@ pub fn follow(file: &[u8], state: &mut [u8], events: &[u8]) -> FollowAnswer
     let mut starts = [0u16; 512];
     let mut nulls = [false; 512];
     let mut repeats = [0u16; 32];
-    let mut firsts = [0u64; 512];
+    let mut firsts = [[0u64; 2]; 512];
     match judge::admit(
         file,
         &mut nodes,

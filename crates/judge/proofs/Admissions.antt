@@ -5,11 +5,10 @@ use mathlib.Core.Logic.{⊎-elim}
 use mathlib.Core.Path.{_≡_, subst}
 use Prim.Native.Nat.{ℕ, _<_}
 use native.Mathlib.Omega.{arith}
-use Rattle.codes.specs.Codes.{Least, LowestIn, limit}
+use Rattle.codes.specs.Codes.{Codes, Contains, Least, LowestIn, limit}
 use Rattle.meaning.specs.declared.JudgeAnswer.the-variants as answer
 use Rattle.meaning.specs.declared.Refusal.{Refusal}
 use Rattle.meaning.specs.declared.Refusal.the-variants.{Conflict}
-use Rattle.meaning.specs.Codes.{Has}
 use Rattle.meaning.specs.Conflict.{ConflictAt}
 use Rattle.meaning.specs.Expr.{Expr}
 use Rattle.meaning.specs.File.{Barred, malformed, conflicting}
@@ -40,7 +39,7 @@ module _ (f nodes starts : List ℕ) (nulls : List Bool) (repeats : List ℕ) wh
       lowest = found (filled .expr) (filled .tables .listing)
 
       -- no code, no conflict
-      pub admits-nodes : (firsts : List ℕ) → ¬ (code < limit) → TellsSets First (held nodes) firsts n → Admits f nodes starts nulls repeats firsts (admission.Nodes n r)
+      pub admits-nodes : (firsts : List Codes) → ¬ (code < limit) → TellsSets First (held nodes) firsts n → Admits f nodes starts nulls repeats firsts (admission.Nodes n r)
       admits-nodes firsts none begun =
           let free : (i k c : ℕ) → ¬ ConflictAt 0 (filled .expr) i k c = λ i k c w.
           let d = lowest .met i k c w in ⊎-elim (λ l. none (l .1)) (λ l. l .0 (d .0) (d .1)) looked in
@@ -53,7 +52,7 @@ module _ (f nodes starts : List ℕ) (nulls : List Bool) (repeats : List ℕ) wh
       -- and with one the lowest is named
       pub admits-not : code < limit → Barred f (Conflict (x .node) (x .kind) code)
       admits-not some =
-          let least : Least (Has (x .shared)) code = ⊎-elim (λ l. l .0) (λ l. let h = l .1 in absurd (omega arith)) looked in
+          let least : Least (Contains (x .shared)) code = ⊎-elim (λ l. l .0) (λ l. let h = l .1 in absurd (omega arith)) looked in
           conflicting (filled .expr) (x .node) (x .kind) code (filled .holds) (record {
             there = lowest .shares code .0 (least .holds);
             lowest-node = lowest .lowest-node;
@@ -67,7 +66,7 @@ module _ (f nodes starts : List ℕ) (nulls : List Bool) (repeats : List ℕ) wh
 
 -- ---- the answer of Judge
 
-module _ (f nodes starts : List ℕ) (nulls : List Bool) (repeats firsts : List ℕ) where
+module _ (f nodes starts : List ℕ) (nulls : List Bool) (repeats : List ℕ) (firsts : List Codes) where
   pub judges-admitted : (a : Admission) (n r : ℕ) → Admits f nodes starts nulls repeats firsts a → a ≡ admission.Nodes n r → Judges f answer.Admitted
   judges-admitted a n r told same =
       let p = subst (Admits f nodes starts nulls repeats firsts) same told in

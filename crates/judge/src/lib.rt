@@ -21,16 +21,16 @@ pub fn admit(
     starts: &mut [u16; 512],
     nulls: &mut [bool; 512],
     repeats: &mut [u16; 32],
-    firsts: &mut [u64; 512],
+    firsts: &mut [[u64; 2]; 512],
 ) -> Admission
     ensures { λ r. ⌜ Admits (now (file .entry)) (now (nodes .exit)) (now (starts .exit)) (now (nulls .exit)) (now (repeats .exit)) (now (firsts .exit)) r ⌝ }
 {
     match procedure::read(file, nodes, starts, nulls, repeats) {
         Opened::Refused(r) => Admission::Refused(r),
         Opened::Nodes(n, count) => {
-            let mut afters = [0u64; 512];
-            let found = sets::fill_sets(nodes, nulls, firsts, &mut afters, n);
-            let code = codes::lowest(found.shared);
+            let found = sets::lowest_conflict(nodes, nulls, firsts, n);
+            let shared = found.shared;
+            let code = codes::lowest(shared);
             if code < codes::LIMIT {
                 return Admission::Refused(Refusal::Conflict(found.node, found.kind, code));
             }
@@ -47,7 +47,7 @@ pub fn judge(file: &[u8]) -> JudgeAnswer
     let mut starts = [0u16; 512];
     let mut nulls = [false; 512];
     let mut repeats = [0u16; 32];
-    let mut firsts = [0u64; 512];
+    let mut firsts = [[0u64; 2]; 512];
     match admit(
         file,
         &mut nodes,

@@ -6,5 +6,6 @@ pub mod GoesOn
 pub mod Follows
 pub mod Pieces
 pub mod Lit
+pub mod LowCodes
 pub mod Meet
 pub mod Room

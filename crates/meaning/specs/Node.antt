@@ -4,6 +4,7 @@ use mathlib.Core.Logic.{_⊎_}
 use mathlib.Core.Bool.{cond}
 use Prim.Native.Nat.{ℕ, zero, suc, _+_, _≤_}
 use lib.Dec.{eqb}
+use Rattle.meaning.specs.Codes.{mostCode}
 use Rattle.meaning.specs.Expr.{Expr, empty, event, choice, sequence, repeat, Upper, upto, endless, size, root}
 
 -- a node record: kind, code, three fields
@@ -14,13 +15,17 @@ pub data Node : Type 0 where
 abbrev pub UpperWritten : ℕ → Type 0
 UpperWritten u = ((1 ≤ u) × (u ≤ 4096)) ⊎ (u ≡ 65535)
 
--- the node record keeps to the table: a line for each kind
-pub data InTable : Node → Type 0 where
-  empty-line : InTable (node 0 0 0 0 0)
-  event-line : (c : ℕ) → c ≤ 63 → InTable (node 1 c 0 0 0)
-  choice-line : (l r : ℕ) → InTable (node 2 0 l r 0)
-  sequence-line : (l r : ℕ) → InTable (node 3 0 l r 0)
-  repeat-line : (b lower upper : ℕ) → lower ≤ 4096 → UpperWritten upper → lower ≤ upper → InTable (node 4 0 b lower upper)
+-- the node record keeps to the table with event codes 0 to `most`: a line for each kind
+pub data InTableTo (most : ℕ) : Node → Type 0 where
+  empty-line : InTableTo most (node 0 0 0 0 0)
+  event-line : (c : ℕ) → c ≤ most → InTableTo most (node 1 c 0 0 0)
+  choice-line : (l r : ℕ) → InTableTo most (node 2 0 l r 0)
+  sequence-line : (l r : ℕ) → InTableTo most (node 3 0 l r 0)
+  repeat-line : (b lower upper : ℕ) → lower ≤ 4096 → UpperWritten upper → lower ≤ upper → InTableTo most (node 4 0 b lower upper)
+
+-- the node record keeps to the table
+abbrev pub InTable : Node → Type 0
+InTable = InTableTo mostCode
 
 -- the upper bound that a number means: 65,535 is none
 abbrev pub bound : ℕ → Upper

@@ -87,14 +87,15 @@ checkNumbers check.Yes = checked 0 1
 checkNumbers check.No = checked 0 0
 checkNumbers (check.Refused r) = checked (row r .answer) 0
 
--- the numbers of Prompt: 0 to 8, the set
+-- the numbers of Prompt: 0 to 8, the two words of the set
 pub record PromptNumbers : Type 0 where
   pub answer : ℕ
-  pub set : ℕ
+  pub low : ℕ
+  pub high : ℕ
 
-abbrev pub prompted : ℕ → ℕ → PromptNumbers
-prompted a s = record { answer = a; set = s }
+abbrev pub prompted : ℕ → ℕ → ℕ → PromptNumbers
+prompted a l h = record { answer = a; low = l; high = h }
 
 abbrev pub promptNumbers : PromptAnswer → PromptNumbers
-promptNumbers (prompt.Lit s) = prompted 0 s
-promptNumbers (prompt.Refused r) = prompted (row r .answer) 0
+promptNumbers (prompt.Lit l h) = prompted 0 l h
+promptNumbers (prompt.Refused r) = prompted (row r .answer) 0 0

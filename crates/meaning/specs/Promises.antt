@@ -22,7 +22,7 @@ use Rattle.meaning.specs.Expr.{Expr}
 use Rattle.meaning.specs.Word.{Word, Begins}
 use Rattle.meaning.specs.Reading.{Item, Reading, codes}
 use Rattle.meaning.specs.Sets.{FirstWorded}
-use Rattle.meaning.specs.Codes.{Has}
+use Rattle.meaning.specs.Codes.{Has, inWords}
 use Rattle.meaning.specs.Bytes.{twoAt}
 use Rattle.meaning.specs.File.{Refused, Holds, Barred, Admitted}
 use Rattle.meaning.specs.State.{ReachesBytes}
@@ -91,8 +91,8 @@ Lights e (suc i) c = (j : ℕ) × DirectlyFollows (loosen e) i j c
 pub data Prompts (f state : List ℕ) : PromptAnswer → Type 0 where
   refused : (r : Refusal) → Barred f r → Prompts f state (prompt.Refused r)
   unreached : (e : Expr) → Admitted f e → NoneReaches e state → Prompts f state (prompt.Refused Unreached)
-  lit : (e : Expr) (u : List ℕ) (set : ℕ) → Admitted f e → ReachesBytes e u state → set < 2 ^ 64
-      → ((c : ℕ) → Has set c ↔ Lights e (twoAt state 0) c) → Prompts f state (prompt.Lit set)
+  lit : (e : Expr) (u : List ℕ) (low high : ℕ) → Admitted f e → ReachesBytes e u state → low < 2 ^ 64 → high < 2 ^ 64
+      → ((c : ℕ) → Has (inWords low high) c ↔ Lights e (twoAt state 0) c) → Prompts f state (prompt.Lit low high)
 
 -- the promises on numbers and bytes, as the calls give them
 unfoldable pub JudgePromise : List ℕ → JudgeNumbers → Type 0

@@ -72,8 +72,8 @@ pub enum CheckAnswer {
 
 // What Prompt answers.
 pub enum PromptAnswer {
-    // The codes to light, as 64 bits.
-    Lit(u64),
+    // The codes to light: codes 0 to 63 as the bits of the low word, and the others, less 64, as those of the high word.
+    Lit(u64, u64),
     // 1 to 8.
     Refused(Refusal),
 }

@@ -4,6 +4,7 @@ use mathlib.Core.Bool.{Bool, true, false}
 use mathlib.Core.Logic.{_↔_}
 use Prim.Native.Nat.{ℕ, zero, suc, _≤_, _<_}
 use native.Mathlib.Omega.{arith}
+use Rattle.meaning.specs.Codes.{mostCode}
 use Rattle.meaning.specs.Node.{Node, node, InTable, empty-line, event-line, choice-line, sequence-line, repeat-line}
 use Rattle.procedure.specs.Entry.{BoundsWritten, NoFields, kindOf, codeOf, leftOf, lowerOf, upperOf}
 use Rattle.procedure.specs.Tests.{Decides}
@@ -11,7 +12,7 @@ use Rattle.procedure.specs.Tests.{Decides}
 -- what the table asks of the other numbers of a node, for each kind
 abbrev line : ℕ → ℕ → ℕ → ℕ → ℕ → Type 0
 line zero c x y z = (c ≡ 0) × (x ≡ 0) × (y ≡ 0) × (z ≡ 0)
-line (suc zero) c x y z = (c ≤ 63) × (x ≡ 0) × (y ≡ 0) × (z ≡ 0)
+line (suc zero) c x y z = (c ≤ mostCode) × (x ≡ 0) × (y ≡ 0) × (z ≡ 0)
 line (suc (suc zero)) c x y z = (c ≡ 0) × (z ≡ 0)
 line (suc (suc (suc zero))) c x y z = (c ≡ 0) × (z ≡ 0)
 line (suc (suc (suc (suc zero)))) c x y z = (c ≡ 0) × BoundsWritten y z
@@ -45,11 +46,11 @@ pub empty-decided : (n : Node) (b : Bool) → kindOf n ≡ 0 → codeOf n ≡ 0 
 empty-decided (node k c x y z) b e h =
     let by = told 0 (node k c x y z) e in decided b (λ p. by .1 (h, p .0, p .1, p .2)) (λ t. let p = by .0 t in (p .1, p .2, p .3))
 
-pub event-decided : (n : Node) (b : Bool) → kindOf n ≡ 1 → codeOf n ≤ 63 → Decides (NoFields n) b → Decides (InTable n) b
+pub event-decided : (n : Node) (b : Bool) → kindOf n ≡ 1 → codeOf n ≤ mostCode → Decides (NoFields n) b → Decides (InTable n) b
 event-decided (node k c x y z) b e h =
     let by = told 1 (node k c x y z) e in decided b (λ p. by .1 (h, p .0, p .1, p .2)) (λ t. let p = by .0 t in (p .1, p .2, p .3))
 
-pub event-code-over : (n : Node) → kindOf n ≡ 1 → 63 < codeOf n → ¬ InTable n
+pub event-code-over : (n : Node) → kindOf n ≡ 1 → mostCode < codeOf n → ¬ InTable n
 event-code-over n e h t = let p = told 1 n e .0 t in omega arith
 
 pub repeat-decided : (n : Node) (b : Bool) (lower upper : ℕ) → kindOf n ≡ 4 → codeOf n ≡ 0 → lower ≡ lowerOf n → upper ≡ upperOf n
@@ -88,5 +89,5 @@ upper-kept (choice-line l r) other = refl
 upper-kept (sequence-line l r) other = refl
 upper-kept (repeat-line b lower upper h u l) other = absurd (other refl)
 
-pub event-kept : (n : Node) → InTable n → kindOf n ≡ 1 → codeOf n ≤ 63
+pub event-kept : (n : Node) → InTable n → kindOf n ≡ 1 → codeOf n ≤ mostCode
 event-kept n t e = told 1 n e .0 t .0

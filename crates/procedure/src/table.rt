@@ -5,7 +5,7 @@ ghost use Rattle.procedure.specs.Entry.{BoundsWritten, NoFields, held, u
 ghost use Rattle.procedure.specs.Tests.{Decides, LowestNot};
 use crate::entry;
 
-const MOST_CODE: u32 = 63;
+const MOST_CODE: u32 = codes::LIMIT - 1;
 
 const MOST_BOUND: u16 = 4096;
 

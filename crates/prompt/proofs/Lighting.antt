@@ -2,12 +2,12 @@
 use mathlib.Core.Path.{_≡_, sym, ap, subst, _∙_}
 use mathlib.Core.Logic.{_↔_, _⊎_, inl, inr, ⊎-elim, Iff·trans}
 use mathlib.Core.Bool.{Bool, true, false, false≢true}
-use mathlib.Core.List.{List}
+use mathlib.Core.List.{List, []}
 use Prim.Native.Nat.{ℕ, suc, _+_, _-_, _≤_, _<_}
 use native.Mathlib.Decide.{decLe}
 use native.Mathlib.Omega.{arith}
 use lib.ListN.{getD}
-use Rattle.meaning.specs.Codes.{Has}
+use Rattle.codes.specs.Codes.{Codes, Contains}
 use Rattle.meaning.specs.Expr.{Expr, event, Part}
 use Rattle.meaning.specs.Promises.{Lights}
 use Rattle.meaning.specs.Sets.{First}
@@ -28,8 +28,8 @@ use Rattle.prompt.proofs.EventNodes.{record-event}
 
 -- ---- one node
 
-pub code-near : {nodes starts : List ℕ} {nulls : List Bool} {plan : List ℕ} {n p q : ℕ} {r : Bool} (set code : ℕ) → q < n → kindOf (held nodes q) ≡ 1
-    → TellsNear nodes starts nulls plan n p q r → r ≡ true → code ≡ codeOf (held nodes q) → ((c : ℕ) → Has set c ↔ (c ≡ code)) → CodeNear nodes starts nulls plan n p q set
+pub code-near : {nodes starts : List ℕ} {nulls : List Bool} {plan : List ℕ} {n p q : ℕ} {r : Bool} (set : Codes) (code : ℕ) → q < n → kindOf (held nodes q) ≡ 1
+    → TellsNear nodes starts nulls plan n p q r → r ≡ true → code ≡ codeOf (held nodes q) → ((c : ℕ) → Contains set c ↔ (c ≡ code)) → CodeNear nodes starts nulls plan n p q set
 code-near {nodes} {q = q} set code l k w yes-near told only = record {
   holds =
       λ e t pl same c. (
@@ -42,13 +42,13 @@ code-near {nodes} {q = q} set code l k w yes-near told only = record {
       );
 }
 
-pub code-not-near : {nodes starts : List ℕ} {nulls : List Bool} {plan : List ℕ} {n p q : ℕ} {r : Bool} (set : ℕ) → TellsNear nodes starts nulls plan n p q r → r ≡ false → ((c : ℕ) → ¬ Has set c)
+pub code-not-near : {nodes starts : List ℕ} {nulls : List Bool} {plan : List ℕ} {n p q : ℕ} {r : Bool} (set : Codes) → TellsNear nodes starts nulls plan n p q r → r ≡ false → ((c : ℕ) → ¬ Contains set c)
     → CodeNear nodes starts nulls plan n p q set
 code-not-near set w not-near none = record {
   holds = λ e t pl same c. (λ h. absurd (none c h), λ f. absurd (false≢true (sym not-near ∙ w .tells e t pl same .1 (f .0))));
 }
 
-pub code-of-none : (nodes starts : List ℕ) (nulls : List Bool) (plan : List ℕ) (n p q set : ℕ) → ¬ (kindOf (held nodes q) ≡ 1) → ((c : ℕ) → ¬ Has set c) → CodeNear nodes starts nulls plan n p q set
+pub code-of-none : (nodes starts : List ℕ) (nulls : List Bool) (plan : List ℕ) (n p q : ℕ) (set : Codes) → ¬ (kindOf (held nodes q) ≡ 1) → ((c : ℕ) → ¬ Contains set c) → CodeNear nodes starts nulls plan n p q set
 code-of-none nodes starts nulls plan n p q set other none = record {
   holds =
       λ e t pl same c.
@@ -57,11 +57,11 @@ code-of-none nodes starts nulls plan n p q set other none = record {
 
 -- ---- the nodes passed
 
-pub codes-none : {nodes starts : List ℕ} {nulls : List Bool} {plan : List ℕ} {n p set : ℕ} → ((c : ℕ) → ¬ Has set c) → CodesNear nodes starts nulls plan n p 0 set
+pub codes-none : {nodes starts : List ℕ} {nulls : List Bool} {plan : List ℕ} {n p : ℕ} {set : Codes} → ((c : ℕ) → ¬ Contains set c) → CodesNear nodes starts nulls plan n p 0 set
 codes-none none = record { holds = λ e t pl same c. (λ h. absurd (none c h), λ f. absurd (omega (arith, f .1))) }
 
-pub codes-more : {nodes starts : List ℕ} {nulls : List Bool} {plan : List ℕ} {n p i set own : ℕ} (all : ℕ) → CodesNear nodes starts nulls plan n p i set → CodeNear nodes starts nulls plan n p i own
-    → ((c : ℕ) → Has all c ↔ (Has set c ⊎ Has own c)) → CodesNear nodes starts nulls plan n p (i + 1) all
+pub codes-more : {nodes starts : List ℕ} {nulls : List Bool} {plan : List ℕ} {n p i : ℕ} {set own : Codes} (all : Codes) → CodesNear nodes starts nulls plan n p i set → CodeNear nodes starts nulls plan n p i own
+    → ((c : ℕ) → Contains all c ↔ (Contains set c ⊎ Contains own c)) → CodesNear nodes starts nulls plan n p (i + 1) all
 codes-more {nodes} {starts} {nulls} {plan} {n} {p} {i} {set} {own} all below here either = record {
   holds =
       λ e t pl same c. (
@@ -74,7 +74,7 @@ codes-more {nodes} {starts} {nulls} {plan} {n} {p} {i} {set} {own} all below her
 }
   where
     side : (e : Expr) (t : Place e) → Plans nodes starts nulls plan n e → nodeOf 0 e t ≡ p → (c : ℕ)
-        → (f : (q : ℕ) × (q < i + 1) × Near 0 e t q × Part 0 e q (event c)) → Dec (i ≤ f .0) → Has set c ⊎ Has own c
+        → (f : (q : ℕ) × (q < i + 1) × Near 0 e t q × Part 0 e q (event c)) → Dec (i ≤ f .0) → Contains set c ⊎ Contains own c
     side e t pl same c f (yes l) =
         let last : f .0 ≡ i = omega (arith, f .1) in
         inr (here .holds e t pl same c .1 (subst (λ (j : ℕ). Near 0 e t j) last (f .2), subst (λ (j : ℕ). Part 0 e j (event c)) last (f .3)))
@@ -82,11 +82,11 @@ codes-more {nodes} {starts} {nulls} {plan} {n} {p} {i} {set} {own} all below her
 
 -- ---- the codes lit
 
-pub lit-after : {nodes starts : List ℕ} {nulls : List Bool} {plan : List ℕ} {n p : ℕ} (set : ℕ) → p < n → kindOf (held nodes p) ≡ 1 → CodesNear nodes starts nulls plan n p n set
+pub lit-after : {nodes starts : List ℕ} {nulls : List Bool} {plan : List ℕ} {n p : ℕ} (set : Codes) → p < n → kindOf (held nodes p) ≡ 1 → CodesNear nodes starts nulls plan n p n set
     → LitAt nodes starts nulls plan n (suc p) set
 lit-after {nodes} {starts} {nulls} {plan} {n} {p} set l k near = record { holds = λ e pl c. both e pl c }
   where
-    both : (e : Expr) → Plans nodes starts nulls plan n e → (c : ℕ) → Has set c ↔ Lights e (suc p) c
+    both : (e : Expr) → Plans nodes starts nulls plan n e → (c : ℕ) → Contains set c ↔ Lights e (suc p) c
     both e pl c =
         let h = listing-bounded (pl .listing) in
         let w = record-event (held nodes) e (pl .listing .stands) p (omega (arith, pl .listing .sized)) (pl .listing .table p l) k in
@@ -100,13 +100,13 @@ lit-after {nodes} {starts} {nulls} {plan} {n} {p} set l k near = record { holds 
               there .1 (f .0, omega (arith, within .1, pl .listing .sized), f .1, f .2),
         )
 
-pub lit-as : {nodes starts : List ℕ} {nulls : List Bool} {plan : List ℕ} {n i node set : ℕ} → node ≡ i → LitAt nodes starts nulls plan n i set → LitAt nodes starts nulls plan n node set
+pub lit-as : {nodes starts : List ℕ} {nulls : List Bool} {plan : List ℕ} {n i node : ℕ} {set : Codes} → node ≡ i → LitAt nodes starts nulls plan n i set → LitAt nodes starts nulls plan n node set
 lit-as {nodes} {starts} {nulls} {plan} {n} {i} {node} {set} same w = subst (λ (j : ℕ). LitAt nodes starts nulls plan n j set) (sym same) w
 
 -- ---- first of the root
 
-pub lit-at-start : (nodes starts : List ℕ) (nulls : List Bool) (firsts plan : List ℕ) (n : ℕ) → TellsSets First (held nodes) firsts n
-    → LitAt nodes starts nulls plan n 0 (getD firsts (n - 1) 0)
+pub lit-at-start : (nodes starts : List ℕ) (nulls : List Bool) (firsts : List Codes) (plan : List ℕ) (n : ℕ) → TellsSets First (held nodes) firsts n
+    → LitAt nodes starts nulls plan n 0 (getD firsts (n - 1) [])
 lit-at-start nodes starts nulls firsts plan n told = record {
   holds =
       λ e pl c.

@@ -1,9 +1,9 @@
 -- From an admitted file and the bytes of a state to the answer of Prompt. Assumes nothing.
 use mathlib.Core.Path.{_≡_, sym, ap, subst, _∙_}
-use mathlib.Core.Logic.{_↔_}
+use mathlib.Core.Logic.{_↔_, Iff·trans}
 use mathlib.Core.Bool.{Bool}
 use mathlib.Core.List.{List}
-use Prim.Native.Nat.{ℕ, _-_, _^_, _≤_, _<_}
+use Prim.Native.Nat.{ℕ, _-_, _≤_}
 use native.Mathlib.Omega.{arith}
 use Rattle.meaning.specs.declared.Refusal.the-variants.{Unreached}
 use Rattle.meaning.specs.declared.PromptAnswer.the-variants as prompt
@@ -11,7 +11,9 @@ use Rattle.meaning.specs.Bytes.{twoAt}
 use Rattle.meaning.specs.theory.Places.{codeAt, nodeOf}
 use Rattle.meaning.specs.theory.Spots.{Spot, start, behind}
 use Rattle.meaning.proofs.general.Twos.{first-two}
-use Rattle.meaning.specs.Codes.{Has}
+use Rattle.codes.specs.Codes.{Codes, OneWord, highOf, lowOf}
+use Rattle.codes.proofs.Pairs.{words-contain}
+use Rattle.meaning.specs.Codes.{Has, inWords}
 use Rattle.meaning.specs.Expr.{Expr}
 use Rattle.meaning.specs.File.{Admitted}
 use Rattle.meaning.specs.Promises.{Lights, Prompts}
@@ -56,13 +58,13 @@ pub prompts-unreached : (f bytes counts : List ℕ) (e : Expr) (a : Read) → Ad
     → Prompts f bytes (prompt.Refused Unreached)
 prompts-unreached f bytes counts e a admitted told is = Prompts.unreached e admitted (subst (ReadOf e bytes counts) is told)
 
-pub prompts-lit : {nodes starts : List ℕ} {nulls : List Bool} {list plan : List ℕ} {n r : ℕ} (f bytes counts : List ℕ) (e : Expr) (a : Read) (node set : ℕ)
+pub prompts-lit : {nodes starts : List ℕ} {nulls : List Bool} {list plan : List ℕ} {n r : ℕ} (f bytes counts : List ℕ) (e : Expr) (a : Read) (node : ℕ) (set : Codes) (low high : ℕ)
     → Admitted f e → Tables nodes starts nulls list n r e → Plans nodes starts nulls plan n e → ReadOf e bytes counts a → a ≡ read.Reached node
-    → set < 2 ^ 64 → LitAt nodes starts nulls plan n node set
-    → Prompts f bytes (prompt.Lit set)
-prompts-lit f bytes counts e a node set admitted w planned told is small lit =
+    → LitAt nodes starts nulls plan n node set → (low ≡ lowOf set) × OneWord low → (high ≡ highOf set) × OneWord high
+    → Prompts f bytes (prompt.Lit low high)
+prompts-lit f bytes counts e a node set low high admitted w planned told is lit l h =
     let came = read-spot e bytes counts a node (omega (arith, tables-repeats w, w .few-repeats)) told is in
     let run = bytes-reached-iff e (listing-bounded (w .listing)) bytes .1 (came .0, came .1, came .3) in
     let same = decoded-node (subst (ReadOf e bytes counts) is told .0) in
-    Prompts.lit e (run .0) set admitted (run .1) small
-    (λ c. subst (λ (i : ℕ). Has set c ↔ Lights e i c) same (lit .holds e planned c))
+    Prompts.lit e (run .0) low high admitted (run .1) (l .1) (h .1)
+    (λ c. subst (λ (i : ℕ). Has (inWords low high) c ↔ Lights e i c) same (Iff·trans (words-contain set low high (l .0) (h .0) c) (lit .holds e planned c)))

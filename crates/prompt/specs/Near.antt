@@ -6,7 +6,7 @@ use mathlib.Core.List.{List}
 use Prim.Native.Nat.{ℕ, _-_, _<_}
 use lib.Dec.{eqb}
 use lib.ListN.{getD}
-use Rattle.meaning.specs.Codes.{Has}
+use Rattle.codes.specs.Codes.{Codes, Contains}
 use Rattle.meaning.specs.Expr.{Expr, event, Part}
 use Rattle.meaning.specs.Node.{Node, bound}
 use Rattle.meaning.specs.Loose.{many}
@@ -33,14 +33,14 @@ pub record TellsNear (nodes starts : List ℕ) (nulls : List Bool) (plan : List 
   pub tells : (e : Expr) (t : Place e) → Plans nodes starts nulls plan n e → nodeOf 0 e t ≡ p → So r ↔ Near 0 e t q
 
 -- the set has the code of node q, where that is an event near event node p, and no other
-pub record CodeNear (nodes starts : List ℕ) (nulls : List Bool) (plan : List ℕ) (n p q set : ℕ) : Type 0 where
-  pub holds : (e : Expr) (t : Place e) → Plans nodes starts nulls plan n e → nodeOf 0 e t ≡ p → (c : ℕ) → Has set c ↔ (Near 0 e t q × Part 0 e q (event c))
+pub record CodeNear (nodes starts : List ℕ) (nulls : List Bool) (plan : List ℕ) (n p q : ℕ) (set : Codes) : Type 0 where
+  pub holds : (e : Expr) (t : Place e) → Plans nodes starts nulls plan n e → nodeOf 0 e t ≡ p → (c : ℕ) → Contains set c ↔ (Near 0 e t q × Part 0 e q (event c))
 
 -- the set has the codes of the event nodes below i that are near event node p
-pub record CodesNear (nodes starts : List ℕ) (nulls : List Bool) (plan : List ℕ) (n p i set : ℕ) : Type 0 where
+pub record CodesNear (nodes starts : List ℕ) (nulls : List Bool) (plan : List ℕ) (n p i : ℕ) (set : Codes) : Type 0 where
   pub holds : (e : Expr) (t : Place e) → Plans nodes starts nulls plan n e → nodeOf 0 e t ≡ p
-      → (c : ℕ) → Has set c ↔ ((q : ℕ) × (q < i) × Near 0 e t q × Part 0 e q (event c))
+      → (c : ℕ) → Contains set c ↔ ((q : ℕ) × (q < i) × Near 0 e t q × Part 0 e q (event c))
 
 -- the set has the codes that are lit at the node reached, of whatever expression the plan is
-pub record LitAt (nodes starts : List ℕ) (nulls : List Bool) (plan : List ℕ) (n node set : ℕ) : Type 0 where
-  pub holds : (e : Expr) → Plans nodes starts nulls plan n e → (c : ℕ) → Has set c ↔ Lights e node c
+pub record LitAt (nodes starts : List ℕ) (nulls : List Bool) (plan : List ℕ) (n node : ℕ) (set : Codes) : Type 0 where
+  pub holds : (e : Expr) → Plans nodes starts nulls plan n e → (c : ℕ) → Contains set c ↔ Lights e node c

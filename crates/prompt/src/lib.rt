@@ -14,7 +14,7 @@ pub fn prompt(file: &[u8], state: &[u8]) -> PromptAnswer
     let mut starts = [0u16; 512];
     let mut nulls = [false; 512];
     let mut repeats = [0u16; 32];
-    let mut firsts = [0u64; 512];
+    let mut firsts = [[0u64; 2]; 512];
     match judge::admit(
         file,
         &mut nodes,

@@ -29,7 +29,7 @@ fn code_near(
     n: usize,
     p: usize,
     q: usize,
-) -> u64
+) -> [u64; 2]
     requires { ⌜ p < n ⌝ }
     requires { ⌜ q < n ⌝ }
     requires { ⌜ ((e : Expr) × Plans (now nodes) (now starts) (now nulls) (now plan) n e) ⌝ }
@@ -53,7 +53,7 @@ fn lit_after(
     plan: &[u64; 512],
     n: usize,
     p: usize,
-) -> u64
+) -> [u64; 2]
     requires { ⌜ p < n ⌝ }
     requires { ⌜ kindOf (held (now nodes) p) ≡ 1 ⌝ }
     requires { ⌜ ((e : Expr) × Plans (now nodes) (now starts) (now nulls) (now plan) n e) ⌝ }
@@ -62,7 +62,8 @@ fn lit_after(
     let mut lit = codes::none();
     let mut q = 0;
     while q < n {
-        lit = codes::union(lit, code_near(nodes, starts, nulls, plan, n, p, q));
+        let more = codes::union(lit, code_near(nodes, starts, nulls, plan, n, p, q));
+        lit = more;
         q += 1;
     }
     lit
@@ -73,11 +74,11 @@ fn lit(
     nodes: &[u64; 512],
     starts: &[u16; 512],
     nulls: &[bool; 512],
-    firsts: &[u64; 512],
+    firsts: &[[u64; 2]; 512],
     plan: &[u64; 512],
     n: usize,
     node: usize,
-) -> u64
+) -> [u64; 2]
     requires { ⌜ node ≤ n ⌝ }
     requires { ⌜ TellsSets First (held (now nodes)) (now firsts) n ⌝ }
     requires { ⌜ (1 ≤ node → kindOf (held (now nodes) (node - 1)) ≡ 1) ⌝ }
@@ -96,7 +97,7 @@ pub fn light(
     starts: &[u16; 512],
     nulls: &[bool; 512],
     repeats: &[u16; 32],
-    firsts: &[u64; 512],
+    firsts: &[[u64; 2]; 512],
     n: usize,
     r: usize,
     bytes: &[u8],
@@ -120,5 +121,6 @@ pub fn light(
     };
     let mut plan = [0u64; 512];
     fill::fill_plan(nodes, nulls, &mut plan, n, r);
-    PromptAnswer::Lit(lit(nodes, starts, nulls, firsts, &plan, n, node))
+    let lit = lit(nodes, starts, nulls, firsts, &plan, n, node);
+    PromptAnswer::Lit(codes::low(lit), codes::high(lit))
 }

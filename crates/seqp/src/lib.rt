@@ -84,15 +84,17 @@ pub extern "C" fn seq_check(file: &[u8], bytes: &[u8], yes: &mut u32) -> u32
     }
 }
 
-// Prompt: 0 to 8; the codes to light as 64 bits.
+// Prompt: 0 to 8; the codes to light: 0 to 63 as the bits of `low`, and the others, less 64, as those of `high`.
 #[no_mangle]
-pub extern "C" fn seq_prompt(file: &[u8], state: &[u8], set: &mut u64) -> u32
-    ensures { λ r. ⌜ PromptPromise (now (file .entry)) (now (state .entry)) (prompted r (now (set .exit))) ⌝ }
+pub extern "C" fn seq_prompt(file: &[u8], state: &[u8], low: &mut u64, high: &mut u64) -> u32
+    ensures { λ r. ⌜ PromptPromise (now (file .entry)) (now (state .entry)) (prompted r (now (low .exit)) (now (high .exit))) ⌝ }
 {
-    *set = 0;
+    *low = 0;
+    *high = 0;
     match prompt::prompt(file, state) {
-        PromptAnswer::Lit(codes) => {
-            *set = codes;
+        PromptAnswer::Lit(l, h) => {
+            *low = l;
+            *high = h;
             0
         }
         PromptAnswer::Refused(refusal) => rows::number_of(refusal),

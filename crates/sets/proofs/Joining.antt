@@ -4,7 +4,7 @@ use mathlib.Core.Logic.{_↔_, _⊎_, inl, inr, ⊎-elim, ⊎-map, Iff·trans, I
 use mathlib.Core.Path.{_≡_, sym, subst, _∙_}
 use Prim.Native.Nat.{ℕ}
 use native.Mathlib.Omega.{arith}
-use Rattle.meaning.specs.Codes.{Has}
+use Rattle.codes.specs.Codes.{Codes, Contains}
 use Rattle.meaning.specs.Expr.{Expr, choice, sequence, repeat, Upper, Within}
 use Rattle.meaning.specs.Node.{bound}
 use Rattle.meaning.specs.Normal.{nullable, low}
@@ -21,8 +21,8 @@ iff-or : {A B C D : Type 0} → A ↔ C → B ↔ D → (A ⊎ B) ↔ (C ⊎ D)
 iff-or p q = (⊎-map (p .0) (q .0), ⊎-map (p .1) (q .1))
 
 -- the set has the codes of P
-abbrev Exactly : ℕ → (ℕ → Type 0) → Type 0
-Exactly set P = (c : ℕ) → Has set c ↔ P c
+abbrev Exactly : Codes → (ℕ → Type 0) → Type 0
+Exactly set P = (c : ℕ) → Contains set c ↔ P c
 
 -- a part may be empty, as it is known and as it is
 may-be-empty : {e : Expr} {p : PartSets} → PartOf e p → So (p .null) ↔ So (nullable e)
@@ -30,15 +30,15 @@ may-be-empty p = (λ h. sym (p .empties) ∙ h, λ h. p .empties ∙ h)
 
 -- ---- a choice
 
-choice-own : (i : ℕ) (l r : Expr) (a b : ℕ) → Exactly a (First l) → Exactly b (First r) → Same (SharedAt i 1 a b) (OwnAt i (choice l r))
+choice-own : (i : ℕ) (l r : Expr) (a b : Codes) → Exactly a (First l) → Exactly b (First r) → Same (SharedAt i 1 a b) (OwnAt i (choice l r))
 choice-own i l r a b p q j k c = (
   λ x. (x .0, (x .1, p c .0 (x .2 .0), q c .0 (x .2 .1))),
   λ x. (x .0, x .1 .0, (p c .1 (x .1 .1), q c .1 (x .1 .2))),
 )
 
-pub joins-choice : (i : ℕ) (l r : PartSets) (first after : ℕ) (own : Found)
-    → Exactly first (λ c. Has (l .first) c ⊎ Has (r .first) c)
-    → Exactly after (λ c. Has (l .after) c ⊎ Has (r .after) c)
+pub joins-choice : (i : ℕ) (l r : PartSets) (first after : Codes) (own : Found)
+    → Exactly first (λ c. Contains (l .first) c ⊎ Contains (r .first) c)
+    → Exactly after (λ c. Contains (l .after) c ⊎ Contains (r .after) c)
     → Lowest (SharedAt i 1 (l .first) (r .first)) own
     → Joins choice i l r (record { first = first; after = after; conflict = own })
 unfolding Joins
@@ -58,11 +58,11 @@ after-right l r must p q x y c = (
 )
 
 -- and where it may be empty
-pub after-either : (l r : PartSets) (any : Bool) (follows ended after : ℕ) → So (r .null)
-    → So any ↔ ((c : ℕ) × Has (l .first) c)
-    → Exactly follows (λ c. So any × Has (r .first) c)
-    → Exactly ended (λ c. Has (l .after) c ⊎ Has follows c)
-    → Exactly after (λ c. Has (r .after) c ⊎ Has ended c)
+pub after-either : (l r : PartSets) (any : Bool) (follows ended after : Codes) → So (r .null)
+    → So any ↔ ((c : ℕ) × Contains (l .first) c)
+    → Exactly follows (λ c. So any × Contains (r .first) c)
+    → Exactly ended (λ c. Contains (l .after) c ⊎ Contains follows c)
+    → Exactly after (λ c. Contains (r .after) c ⊎ Contains ended c)
     → (p q : Expr) → PartOf p l → PartOf q r → Exactly after (After (sequence p q))
 after-either l r any follows ended after may hany hf he ha p q x y =
     let starts : So any ↔ Starts p = (λ o. let z = hany .0 o in (z .0, x .firsts (z .0) .0 (z .1)), λ z. hany .1 (z .0, x .firsts (z .0) .1 (z .1))) in
@@ -71,7 +71,7 @@ after-either l r any follows ended after may hany hf he ha p q x y =
     let empty = may-be-empty y .0 may in
     λ c. Iff·trans (ha c) (iff-or (y .afters c) (λ h. (empty, ends c .0 h), λ w. ends c .1 (w .1)))
 
-sequence-own : (i : ℕ) (l r : Expr) (a b d begins : ℕ) → Exactly a (First l) → Exactly b (First r) → Exactly d (After l)
+sequence-own : (i : ℕ) (l r : Expr) (a b d begins : Codes) → Exactly a (First l) → Exactly b (First r) → Exactly d (After l)
     → Exactly begins (λ c. So (nullable l) × First r c) → Same (Either (SharedAt i 2 a begins) (SharedAt i 3 d b)) (OwnAt i (sequence l r))
 sequence-own i l r a b d begins p q o w j k c = (
   ⊎-elim (λ x. (x .0, inl (x .1, w c .0 (x .2 .1) .0, p c .0 (x .2 .0), w c .0 (x .2 .1) .1)))
@@ -80,14 +80,14 @@ sequence-own i l r a b d begins p q o w j k c = (
 )
 
 -- at one node kind 2 comes before kind 3
-kinds-ahead : (n a b d e : ℕ) → Ahead (SharedAt n 2 a b) (SharedAt n 3 d e)
+kinds-ahead : (n : ℕ) (a b d e : Codes) → Ahead (SharedAt n 2 a b) (SharedAt n 3 d e)
 kinds-ahead n a b d e i k c j l f x y = inr (x .0 ∙ sym (y .0), let g = x .1 in let h = y .1 in omega arith)
 
-pub joins-sequence : (i : ℕ) (l r : PartSets) (begins first after : ℕ) (two three own : Found)
-    → Exactly begins (λ c. So (l .null) × Has (r .first) c)
+pub joins-sequence : (i : ℕ) (l r : PartSets) (begins first after : Codes) (two three own : Found)
+    → Exactly begins (λ c. So (l .null) × Contains (r .first) c)
     → Lowest (SharedAt i 2 (l .first) begins) two
     → Lowest (SharedAt i 3 (l .after) (r .first)) three
-    → Exactly first (λ c. Has (l .first) c ⊎ Has begins c)
+    → Exactly first (λ c. Contains (l .first) c ⊎ Contains begins c)
     → ((p q : Expr) → PartOf p l → PartOf q r → Exactly after (After (sequence p q)))
     → Sooner two three own
     → Joins sequence i l r (record { first = first; after = after; conflict = own })
@@ -104,19 +104,19 @@ joins-sequence i l r begins first after two three own hb n2 n3 hf ha o p q x y =
 
 -- ---- a repeat
 
-repeat-own : (i : ℕ) (b : Expr) (lower : ℕ) (upper : Upper) (a follows : ℕ) → Exactly a (After b)
+repeat-own : (i : ℕ) (b : Expr) (lower : ℕ) (upper : Upper) (a follows : Codes) → Exactly a (After b)
     → Exactly follows (λ c. Within 2 upper × First b c) → Same (SharedAt i 4 a follows) (OwnAt i (repeat b lower upper))
 repeat-own i b lower upper a follows p q j k c = (
   λ x. (x .0, (x .1, q c .0 (x .2 .1) .0, p c .0 (x .2 .0), q c .0 (x .2 .1) .1)),
   λ x. (x .0, x .1 .0, (p c .1 (x .1 .2), q c .1 (x .1 .1, x .1 .3))),
 )
 
-pub over-body : (i lower upper : ℕ) (b : PartSets) (again flexible : Bool) (follows mayFollow after : ℕ) (own : Found)
+pub over-body : (i lower upper : ℕ) (b : PartSets) (again flexible : Bool) (follows mayFollow after : Codes) (own : Found)
     → Decides (Within 2 (bound upper)) again
     → Decides (Flexible (low (b .null) lower) (bound upper)) flexible
-    → Exactly follows (λ c. So again × Has (b .first) c)
-    → Exactly mayFollow (λ c. So flexible × Has (b .first) c)
-    → Exactly after (λ c. Has (b .after) c ⊎ Has mayFollow c)
+    → Exactly follows (λ c. So again × Contains (b .first) c)
+    → Exactly mayFollow (λ c. So flexible × Contains (b .first) c)
+    → Exactly after (λ c. Contains (b .after) c ⊎ Contains mayFollow c)
     → Lowest (SharedAt i 4 (b .after) follows) own
     → OverBody i lower upper b (record { first = b .first; after = after; conflict = own })
 unfolding OverBody

@@ -5,8 +5,7 @@ use mathlib.Core.Path.{_≡_, refl}
 use Prim.Native.Nat.{ℕ, _<_}
 use native.Mathlib.Omega.{arith}
 use native.Mathlib.Nat.{le-of-eq}
-use Rattle.codes.specs.Codes.{Shared}
-use Rattle.meaning.specs.Codes.{Has}
+use Rattle.codes.specs.Codes.{Codes, Contains, Shared}
 use Rattle.sets.specs.Lowest.{Conflicts, Lowest, SharedAt, Sooner, first, second}
 use Rattle.sets.specs.declared.conflict.Found.{Found}
 
@@ -21,8 +20,8 @@ abbrev pub Ahead : Conflicts → Conflicts → Type 0
 Ahead R S = (i k c j l d : ℕ) → R i k c → S j l d → (i < j) ⊎ ((i ≡ j) × (k < l))
 
 -- nothing is shared
-abbrev pub NoCode : ℕ → Type 0
-NoCode set = (c : ℕ) → ¬ Has set c
+abbrev pub NoCode : Codes → Type 0
+NoCode set = (c : ℕ) → ¬ Contains set c
 
 pub lowest-same : {R S : Conflicts} {x : Found} → Same R S → Lowest R x → Lowest S x
 lowest-same {x = x} e n = record {
@@ -47,7 +46,7 @@ none-lowest {x = x} never none = record {
 -- ---- of two groups
 
 -- the first, where it has a conflict
-lowest-first : {R S : Conflicts} {x : Found} → Ahead R S → (c : ℕ) → Has (x .shared) c → Lowest R x → Lowest (Either R S) x
+lowest-first : {R S : Conflicts} {x : Found} → Ahead R S → (c : ℕ) → Contains (x .shared) c → Lowest R x → Lowest (Either R S) x
 lowest-first {x = x} ahead c h n =
     let there = n .shares c .0 h in
     record {
@@ -70,7 +69,7 @@ lowest-kept never n = lowest-same (λ i k c. (inl, ⊎-elim (λ r. r) (λ s. abs
 
 -- ---- the codes that two sets share
 
-pub lowest-shared : (node kind a b shared : ℕ) → ((c : ℕ) → Has shared c ↔ Shared a b c)
+pub lowest-shared : (node kind : ℕ) (a b shared : Codes) → ((c : ℕ) → Contains shared c ↔ Shared a b c)
     → Lowest (SharedAt node kind a b) (record { node = node; kind = kind; shared = shared })
 lowest-shared node kind a b shared told = record {
   shares = λ c. (λ h. (refl, refl, told c .0 h), λ s. told c .1 (s .2));

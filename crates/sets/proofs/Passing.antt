@@ -1,12 +1,12 @@
 -- The pass upward: what was found at the nodes below i, and at node i. Assumes nothing.
 use mathlib.Core.Bool.{Bool, true, false, So, false≢true, not, _&&_}
 use mathlib.Core.List.{List}
-use mathlib.Core.Logic.{_↔_, _⊎_, inl, inr, ⊎-elim}
+use mathlib.Core.Logic.{_↔_, inl, inr, ⊎-elim}
 use mathlib.Core.Path.{_≡_, refl, sym, subst}
 use Prim.Native.Nat.{ℕ, _+_, _<_}
 use native.Mathlib.Decide.{decLt}
 use native.Mathlib.Omega.{arith}
-use Rattle.meaning.specs.Codes.{Has}
+use Rattle.codes.specs.Codes.{Contains}
 use Rattle.meaning.specs.Conflict.{Conflict, ConflictAt}
 use Rattle.meaning.specs.Expr.{Expr, Part}
 use Rattle.meaning.specs.Sets.{First, After}
@@ -80,14 +80,14 @@ module _ {nodes : List ℕ} {n : ℕ} (e : Expr) (listing : Listing nodes n e) w
       either s = lowest-same (below-next i (ConflictAt 0 e)) (lowest-either (below-ahead i (ConflictAt 0 e)) s found own-lowest)
 
       -- its own is the lowest
-      pub found-here : (some had : Bool) → So had ↔ ((c : ℕ) × Has (before .shared) c) → (some && not had) ≡ true
+      pub found-here : (some had : Bool) → So had ↔ ((c : ℕ) × Contains (before .shared) c) → (some && not had) ≡ true
           → Lowest (BelowNode (i + 1) (ConflictAt 0 e)) (x .conflict)
       found-here true true told both = absurd (false≢true both)
       found-here true false told both = either (second (λ c h. false≢true (told .1 (c, h))))
       found-here false had told both = absurd (false≢true both)
 
       -- what was found before stays
-      pub found-before : (some had : Bool) → So some ↔ ((c : ℕ) × Has (x .conflict .shared) c) → So had ↔ ((c : ℕ) × Has (before .shared) c)
+      pub found-before : (some had : Bool) → So some ↔ ((c : ℕ) × Contains (x .conflict .shared) c) → So had ↔ ((c : ℕ) × Contains (before .shared) c)
           → (some && not had) ≡ false → Lowest (BelowNode (i + 1) (ConflictAt 0 e)) before
       found-before some true own had both = let c = had .0 refl in either (first (c .0) (c .1))
       found-before true false own had both = absurd (false≢true (sym both))

@@ -5,7 +5,7 @@ use mathlib.Core.Logic.{_↔_}
 use mathlib.Core.Path.{_≡_, refl, sym, subst, _∙_}
 use Prim.Native.Nat.{ℕ, _+_, _-_, _≤_, _<_}
 use native.Mathlib.Omega.{arith}
-use Rattle.meaning.specs.Codes.{Has}
+use Rattle.codes.specs.Codes.{Codes, Contains}
 use Rattle.meaning.specs.Expr.{Expr, choice, sequence, root, size}
 use Rattle.meaning.specs.Node.{Node, Stands}
 use Rattle.meaning.specs.Sets.{First, After}
@@ -22,15 +22,15 @@ pub leaf-at : (g : ℕ → Node) (i : ℕ) (x : NodeSets) → OfLeaf (g i) x →
 unfolding OfLeaf
 leaf-at g i x h = h g i refl
 
-module _ (g : ℕ → Node) (nulls : List Bool) (firsts afters : List ℕ) (i : ℕ)
+module _ (g : ℕ → Node) (nulls : List Bool) (firsts afters : List Codes) (i : ℕ)
     (empties : TellsNulls g nulls i) (begun : TellsSets First g firsts i) (ended : TellsSets After g afters i) where
   -- a part below node i is as the tables tell
   part-told : (j s : ℕ) (e : Expr) (p : PartSets) → j < i → Stands g s e → root s e ≡ j → ReadAt nulls firsts afters j p → PartOf e p
   unfolding TellsNulls NullAt
   part-told j s e p l st at r = record {
     empties = r .null ∙ empties j l s e st at;
-    firsts = subst (λ (set : ℕ). (c : ℕ) → Has set c ↔ First e c) (sym (r .first)) (set-of-part First g firsts i j s e begun l st at);
-    afters = subst (λ (set : ℕ). (c : ℕ) → Has set c ↔ After e c) (sym (r .after)) (set-of-part After g afters i j s e ended l st at);
+    firsts = subst (λ (set : Codes). (c : ℕ) → Contains set c ↔ First e c) (sym (r .first)) (set-of-part First g firsts i j s e begun l st at);
+    afters = subst (λ (set : Codes). (c : ℕ) → Contains set c ↔ After e c) (sym (r .after)) (set-of-part After g afters i j s e ended l st at);
   }
 
   module _ (kind : ℕ) (told : kind ≡ kindOf (g i)) (some : 1 ≤ i) where

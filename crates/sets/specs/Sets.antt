@@ -2,10 +2,10 @@
 use mathlib.Core.Path.{_≡_}
 use mathlib.Core.Bool.{Bool, false}
 use mathlib.Core.Logic.{_↔_}
-use mathlib.Core.List.{List}
+use mathlib.Core.List.{List, []}
 use Prim.Native.Nat.{ℕ}
 use lib.ListN.{getD}
-use Rattle.meaning.specs.Codes.{Has}
+use Rattle.codes.specs.Codes.{Codes, Contains}
 use Rattle.meaning.specs.Expr.{Expr, repeat, root}
 use Rattle.meaning.specs.Node.{Node, Stands, bound}
 use Rattle.meaning.specs.Normal.{nullable}
@@ -17,13 +17,13 @@ use Rattle.sets.specs.declared.joins.NodeSets.{NodeSets}
 -- this is known of the part e
 pub record PartOf (e : Expr) (p : PartSets) : Type 0 where
   pub empties : p .null ≡ nullable e
-  pub firsts : (c : ℕ) → Has (p .first) c ↔ First e c
-  pub afters : (c : ℕ) → Has (p .after) c ↔ After e c
+  pub firsts : (c : ℕ) → Contains (p .first) c ↔ First e c
+  pub afters : (c : ℕ) → Contains (p .after) c ↔ After e c
 
 -- this is worked out of the part e, whose node is node i
 pub record WorkedOut (i : ℕ) (e : Expr) (x : NodeSets) : Type 0 where
-  pub firsts : (c : ℕ) → Has (x .first) c ↔ First e c
-  pub afters : (c : ℕ) → Has (x .after) c ↔ After e c
+  pub firsts : (c : ℕ) → Contains (x .first) c ↔ First e c
+  pub afters : (c : ℕ) → Contains (x .after) c ↔ After e c
   pub conflicts : Lowest (OwnAt i e) (x .conflict)
 
 -- of whatever part stands at node i
@@ -43,7 +43,7 @@ unfoldable pub OverBody : ℕ → ℕ → ℕ → PartSets → NodeSets → Type
 OverBody i lower upper b x = (e : Expr) → PartOf e b → WorkedOut i (repeat e lower (bound upper)) x
 
 -- the tables' entries of node j
-pub record ReadAt (nulls : List Bool) (firsts afters : List ℕ) (j : ℕ) (p : PartSets) : Type 0 where
+pub record ReadAt (nulls : List Bool) (firsts afters : List Codes) (j : ℕ) (p : PartSets) : Type 0 where
   pub null : p .null ≡ getD nulls j false
-  pub first : p .first ≡ getD firsts j 0
-  pub after : p .after ≡ getD afters j 0
+  pub first : p .first ≡ getD firsts j []
+  pub after : p .after ≡ getD afters j []

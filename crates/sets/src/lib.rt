@@ -18,7 +18,7 @@ pub mod conflict; // conflict.rt: the lowest of some conflicts
 pub mod joins; // joins.rt: the sets of a node, from its children's
 
 // What the tables tell of the part of node j.
-fn part_at(nulls: &[bool; 512], firsts: &[u64], afters: &[u64], j: usize) -> PartSets
+fn part_at(nulls: &[bool; 512], firsts: &[[u64; 2]], afters: &[[u64; 2]], j: usize) -> PartSets
     requires { ⌜ j < 512 ⌝ }
     requires { ⌜ (j < length (now firsts)) × (j < length (now afters)) ⌝ }
     ensures { λ r. ⌜ ReadAt (now (nulls .entry)) (now (firsts .entry)) (now (afters .entry)) j r ⌝ }
@@ -34,8 +34,8 @@ fn part_at(nulls: &[bool; 512], firsts: &[u64], afters: &[u64], j: usize) -> Par
 fn sets_at(
     nodes: &[u64; 512],
     nulls: &[bool; 512],
-    firsts: &[u64],
-    afters: &[u64],
+    firsts: &[[u64; 2]],
+    afters: &[[u64; 2]],
     i: usize,
 ) -> NodeSets
     requires { ⌜ (i ≤ length (now firsts)) × (i ≤ length (now afters)) ⌝ }
@@ -63,11 +63,11 @@ fn sets_at(
 
 // The tables come to have first and after of the parts of the n nodes. What is handed out is the lowest conflict: the first that is
 // met, since a node comes after those below it.
-pub fn fill_sets(
+fn fill_sets(
     nodes: &[u64; 512],
     nulls: &[bool; 512],
-    firsts: &mut [u64],
-    afters: &mut [u64],
+    firsts: &mut [[u64; 2]],
+    afters: &mut [[u64; 2]],
     n: usize,
 ) -> Found
     requires { ⌜ (n ≤ length (now firsts)) × (n ≤ length (now afters)) ⌝ }
@@ -82,13 +82,32 @@ pub fn fill_sets(
     let mut i = 0;
     while i <= last {
         let own = sets_at(nodes, nulls, firsts, afters, i);
-        firsts[i] = own.first;
-        afters[i] = own.after;
+        let first = own.first;
+        let after = own.after;
+        firsts[i] = first;
+        afters[i] = after;
         let here = own.conflict;
-        if codes::any(here.shared) & !codes::any(found.shared) {
+        if conflict::is_one(here) & !conflict::is_one(found) {
             found = here;
         }
         i += 1;
     }
     found
+}
+
+// The lowest conflict. The table comes to have first of the parts of the n nodes; after of the parts is not kept.
+pub fn lowest_conflict(
+    nodes: &[u64; 512],
+    nulls: &[bool; 512],
+    firsts: &mut [[u64; 2]],
+    n: usize,
+) -> Found
+    requires { ⌜ n ≤ length (now firsts) ⌝ }
+    requires { ⌜ ((e : Expr) × Listing (now nodes) n e) ⌝ }
+    requires { ⌜ TellsNulls (held (now nodes)) (now nulls) n ⌝ }
+    ensures { λ _. ⌜ TellsSets First (held (now (nodes .entry))) (now (firsts .exit)) n ⌝ }
+    ensures { λ r. ⌜ ((e : Expr) → Listing (now (nodes .entry)) n e → Lowest (ConflictAt 0 e) r) ⌝ }
+{
+    let mut afters = [[0u64; 2]; 512];
+    fill_sets(nodes, nulls, firsts, &mut afters, n)
 }

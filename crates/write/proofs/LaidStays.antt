@@ -21,6 +21,7 @@ use Rattle.sets.specs.Tables.{SetAt}
 use Rattle.write.specs.declared.lay.Laid.{Laid}
 use Rattle.write.specs.declared.lay.Laid.the-variants.{To, Unlaid}
 use Rattle.record.specs.Put.{putAt, puts}
+use Rattle.codes.specs.Codes.{Codes}
 use Rattle.write.specs.Lay.{Division, Halts, Lays, LaysAt, NextIn, Reported, into, never}
 use Rattle.record.proofs.Blocks.{blockOf}
 use Rattle.write.proofs.LaidBlocks.{Dwells, dwell-none, dwell-more, dwell-broken, dwell-idle, dwell-ended, dwell-off}
@@ -70,7 +71,7 @@ begins-there run at c u e =
     let l : at < length run = omega (arith, length-drop at run) in
     (l, head-eq-of-cons-eq (sym (drop-cons run at 0 l) ∙ e))
 
-module _ (g : ℕ → Node) (set : ℕ) (run space mid : List ℕ) (i event item k at to : ℕ) (begins : SetAt First g i set)
+module _ (g : ℕ → Node) (set : Codes) (run space mid : List ℕ) (i event item k at to : ℕ) (begins : SetAt First g i set)
     (stay : DwellsAt g run space i event item k at to mid) where
   -- the body stands before the repeat
   body-at : (s : ℕ) (b : Expr) → s + size b ≡ i → root s b ≡ i - 1

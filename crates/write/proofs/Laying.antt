@@ -8,7 +8,7 @@ use native.Mathlib.Numerals.{add-one}
 use native.Mathlib.Omega.{arith}
 use lib.ListN.{length, drop, getD, length-append}
 use lib.Seq.{drop-cons}
-use Rattle.meaning.specs.Codes.{Has}
+use Rattle.codes.specs.Codes.{Codes, Contains}
 use Rattle.meaning.specs.Expr.{Expr, event, choice, sequence, size}
 use Rattle.meaning.specs.Node.{Node}
 use Rattle.meaning.specs.Reading.{Item, place, Reading}
@@ -32,7 +32,7 @@ use Rattle.procedure.proofs.Standing.{at-leaf, at-choice, at-sequence}
 
 -- ---- what is known up to a node is known up to every lower one
 
-pub known-lower : (nodes : List ℕ) (nulls : List Bool) (firsts : List ℕ) (i j : ℕ) → j ≤ i → OneOf nodes i → TellsNulls (held nodes) nulls (i + 1)
+pub known-lower : (nodes : List ℕ) (nulls : List Bool) (firsts : List Codes) (i j : ℕ) → j ≤ i → OneOf nodes i → TellsNulls (held nodes) nulls (i + 1)
     → TellsSets First (held nodes) firsts (i + 1) → OneOf nodes j × TellsNulls (held nodes) nulls (j + 1) × TellsSets First (held nodes) firsts (j + 1)
 known-lower nodes nulls firsts i j h o known begun = (
   one-lower i j h o,
@@ -72,10 +72,10 @@ module _ (run : List ℕ) (i at to : ℕ) where
 
 -- ---- the code at a place
 
-pub next-there : (codes : ℕ) (run : List ℕ) (at : ℕ) → NextIn codes run at → drop at run ≡ getD run at 0 ∷ drop (at + 1) run
+pub next-there : (codes : Codes) (run : List ℕ) (at : ℕ) → NextIn codes run at → drop at run ≡ getD run at 0 ∷ drop (at + 1) run
 next-there codes run at n = drop-cons run at 0 (n .0) ∙ ap (λ (k : ℕ). getD run at 0 ∷ drop k run) (sym (add-one at))
 
-unbegun-at : (codes : ℕ) (e : Expr) (run : List ℕ) (at : ℕ) → ((c : ℕ) → First e c → Has codes c) → ¬ NextIn codes run at → Unbegun e (drop at run)
+unbegun-at : (codes : Codes) (e : Expr) (run : List ℕ) (at : ℕ) → ((c : ℕ) → First e c → Contains codes c) → ¬ NextIn codes run at → Unbegun e (drop at run)
 unbegun-at codes e [] zero f n = tt
 unbegun-at codes e [] (suc at) f n = tt
 unbegun-at codes e (c ∷ run) zero f n = λ h. n (omega arith, f c h)
@@ -104,7 +104,7 @@ reported-onto run space mid after to t x never Unlaid e m told = tt
 
 -- ---- a part that is passed by, and a leaf
 
-module _ (g : ℕ → Node) (set : ℕ) (run space : List ℕ) (i at to : ℕ) (begins : SetAt First g i set) where
+module _ (g : ℕ → Node) (set : Codes) (run space : List ℕ) (i at to : ℕ) (begins : SetAt First g i set) where
   pub pass-by : (null : Bool) (r : Laid) → NullAt g i null → ¬ NextIn set run at → Halts (So null) at to r → LaysAt g run space i at to r space
   unfolding LaysAt NullAt SetAt
   pass-by null (To a t) known out ends = λ s e p h free.
@@ -134,7 +134,7 @@ module _ (g : ℕ → Node) (set : ℕ) (run space : List ℕ) (i at to : ℕ) (
     -- ---- a choice
 
     module _ (after : List ℕ) (r : Laid) (left : ℕ) (f : left ≡ leftOf (g i)) (k : kind ≡ 2)
-        (lefts : ℕ) (left-begins : SetAt First g left lefts) where
+        (lefts : Codes) (left-begins : SetAt First g left lefts) where
       pub choice-goes-left : NextIn lefts run at → LaysAt g run space left at to r after → LaysAt g run space i at to r after
       unfolding LaysAt SetAt
       choice-goes-left here a = λ s.

@@ -3,7 +3,7 @@ use mathlib.Core.Path.{_≡_}
 use mathlib.Core.List.{List, [], _∷_, _++_, map}
 use Prim.Native.Nat.{ℕ, _+_, _-_, _*_, _≤_, _<_}
 use lib.ListN.{length, drop, getD}
-use Rattle.meaning.specs.Codes.{Has}
+use Rattle.codes.specs.Codes.{Codes, Contains}
 use Rattle.meaning.specs.Expr.{Expr, root}
 use Rattle.meaning.specs.Node.{Node, Stands}
 use Rattle.meaning.specs.Reading.{Item, Reading, codes}
@@ -15,8 +15,8 @@ use Rattle.write.specs.declared.lay.Laid.the-variants.{To, Unlaid}
 use Rattle.record.specs.Put.{puts}
 
 -- the next code of the run is in the set
-abbrev pub NextIn : ℕ → List ℕ → ℕ → Type 0
-NextIn codes run at = (at < length run) × Has codes (getD run at 0)
+abbrev pub NextIn : Codes → List ℕ → ℕ → Type 0
+NextIn set run at = (at < length run) × Contains set (getD run at 0)
 
 -- what comes next does not continue the items of the part: it is not in first, where they hold no event, and not in after, where they do
 abbrev pub Detached : Expr → List Item → List ℕ → Type 0

@@ -29,7 +29,7 @@ fn wide(x: u8) -> u32
 }
 
 // Whether the next code of the run is in the set.
-fn next_in(set: u64, run: &[u8], at: usize) -> bool
+fn next_in(set: [u64; 2], run: &[u8], at: usize) -> bool
     ensures { λ r. ⌜ Decides (NextIn set (now (run .entry)) at) r ⌝ }
 {
     if at < run.len() {
@@ -39,7 +39,7 @@ fn next_in(set: u64, run: &[u8], at: usize) -> bool
 }
 
 // Whether another block begins: the next code is in the set, and the repeat may have k blocks.
-fn another(set: u64, entry: u64, run: &[u8], at: usize, k: usize) -> bool
+fn another(set: [u64; 2], entry: u64, run: &[u8], at: usize, k: usize) -> bool
     ensures { λ r. ⌜ Decides (NextIn set (now (run .entry)) at × Within k (bound (upperOf (unpacked entry)))) r ⌝ }
 {
     if !next_in(set, run, at) {
@@ -63,7 +63,7 @@ fn to_if(may: bool, event: usize, item: usize) -> Laid
 pub fn lay(
     nodes: &[u64; 512],
     nulls: &[bool; 512],
-    firsts: &[u64; 512],
+    firsts: &[[u64; 2]; 512],
     run: &[u8],
     space: &mut [u8],
     node: usize,
@@ -115,7 +115,7 @@ pub fn lay(
 fn lay_blocks(
     nodes: &[u64; 512],
     nulls: &[bool; 512],
-    firsts: &[u64; 512],
+    firsts: &[[u64; 2]; 512],
     run: &[u8],
     space: &mut [u8],
     i: usize,

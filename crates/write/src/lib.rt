@@ -23,7 +23,7 @@ const LONGEST: usize = 65536;
 fn write_run(
     nodes: &[u64; 512],
     nulls: &[bool; 512],
-    firsts: &[u64; 512],
+    firsts: &[[u64; 2]; 512],
     n: usize,
     run: &[u8],
     space: &mut [u8],
@@ -59,7 +59,7 @@ pub fn write(file: &[u8], run: &[u8], space: &mut [u8]) -> WriteAnswer
     let mut starts = [0u16; 512];
     let mut nulls = [false; 512];
     let mut repeats = [0u16; 32];
-    let mut firsts = [0u64; 512];
+    let mut firsts = [[0u64; 2]; 512];
     match judge::admit(
         file,
         &mut nodes,

@@ -5,6 +5,7 @@ use crate::calls::{check, follow, judge, prompt, write, Outcome};
 use crate::file;
 use crate::parse::tree;
 use crate::state::{Place, STATE_BYTES};
+use crate::tree::Symbol;
 
 const START: [u8; STATE_BYTES] = [0; STATE_BYTES];
 
@@ -16,7 +17,7 @@ fn run_of(text: &str) -> Vec<u8> {
     text.bytes().map(|letter| letter - b'a').collect()
 }
 
-fn judged(text: &str) -> (u32, usize, u32, u32) {
+fn judged(text: &str) -> (u32, usize, u32, u8) {
     match judge(&file_of(text)) {
         Outcome::Judge {
             answer,
@@ -211,17 +212,17 @@ fn a_state_that_no_run_reaches_is_refused() {
 /// A break is not kept: the state stands after the events taken.
 #[test]
 fn a_break_leaves_the_state_after_those_taken() {
-    let Outcome::Follow {
-        taken: 2,
-        verdict: 2,
-        state,
-        ..
-    } = follow_state("a{2,4}b", &START, &[0, 0, 64, 1])
-    else {
-        panic!("two events continue");
-    };
-    assert_eq!(state, state_bytes(&[1, 2]));
-    let after = follow_state("a{2,4}b", &state, &[1]);
+    for strange in [2, 63, 64, 127, 128, 255] {
+        let broken = Outcome::Follow {
+            answer: 0,
+            taken: 2,
+            verdict: 2,
+            state: state_bytes(&[1, 2]),
+        };
+        let events = [0, 0, strange, 1];
+        assert_eq!(follow_state("a{2,4}b", &START, &events), broken);
+    }
+    let after = follow_state("a{2,4}b", &state_bytes(&[1, 2]), &[1]);
     assert_eq!(
         after,
         Outcome::Follow {
@@ -254,7 +255,9 @@ fn write_refuses_in_turn() {
         space: vec![5; 5],
     };
     assert_eq!(write(&endless, &[1; 65_537], &[5; 5]), unchanged(9));
-    assert_eq!(write(&endless, &[64], &[5; 5]), unchanged(10));
+    for strange in [64, 127, 128, 255] {
+        assert_eq!(write(&endless, &[strange], &[5; 5]), unchanged(10));
+    }
     assert_eq!(write(&endless, &[0; 65_536], &[5; 5]), unchanged(11));
     assert_eq!(write(&endless, &[0], &[5; 5]), unchanged(11));
     assert_eq!(
@@ -347,5 +350,56 @@ fn prompts() {
             set: 1 << 63
         }
     );
+    assert_eq!(
+        set("a{2,2}#127", &[1, 1]),
+        Outcome::Prompt {
+            answer: 0,
+            set: 1 | 1 << 127
+        }
+    );
     assert_eq!(set("e", &[]), Outcome::Prompt { answer: 0, set: 0 });
+}
+
+/// The codes on both sides of the words' edge and of the limit, in each call.
+#[test]
+fn codes_at_the_edges() {
+    for code in [0, 63, 64, 65, 126, 127] {
+        let text = format!("#{code}{{1,2}}");
+        assert_eq!(judged(&text), (0, 0, 0, 0));
+        let complete = Outcome::Follow {
+            answer: 0,
+            taken: 2,
+            verdict: 0,
+            state: state_bytes(&[1, 2]),
+        };
+        assert_eq!(follow_state(&text, &START, &[code, code]), complete);
+        let written = Outcome::Write {
+            answer: 0,
+            length: 6,
+            space: vec![1, 16, 0, 0, 1, 32],
+        };
+        assert_eq!(write(&file_of(&text), &[code], &[5; 6]), written);
+        assert_eq!(checked(&text, &[4097, 0, 8193]), 1);
+        let lit = Outcome::Prompt {
+            answer: 0,
+            set: 1 << code,
+        };
+        assert_eq!(prompt(&file_of(&text), &START), lit);
+    }
+    for code in [128, 129, 192, 255] {
+        let file = file::write(&[], &[Symbol::Event(0), Symbol::Event(code)]);
+        assert_eq!(follow(&file, &START, &[code]).answer(), 4);
+        assert_eq!(write(&file, &[code], &[]).answer(), 4);
+        assert_eq!(check(&file, &[0, 0]).answer(), 4);
+        assert_eq!(prompt(&file, &START), Outcome::Prompt { answer: 4, set: 0 });
+        assert_eq!(
+            judge(&file),
+            Outcome::Judge {
+                answer: 4,
+                node: 1,
+                kind: 0,
+                code: 0
+            }
+        );
+    }
 }

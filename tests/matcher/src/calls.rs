@@ -3,6 +3,7 @@
 //! two ways differ the matcher itself is wrong, and it stops.
 
 use crate::automaton::Automaton;
+use crate::codes::Codes;
 use crate::conflict::{self, Conflict};
 use crate::explored::Explored;
 use crate::file;
@@ -42,6 +43,18 @@ pub enum Call {
     },
 }
 
+impl Call {
+    pub fn file(&self) -> &[u8] {
+        match self {
+            Call::Judge { file }
+            | Call::Follow { file, .. }
+            | Call::Write { file, .. }
+            | Call::Check { file, .. }
+            | Call::Prompt { file, .. } => file,
+        }
+    }
+}
+
 /// All that a call gives, lent space included.
 #[derive(Clone, Debug, PartialEq, Eq)]
 pub enum Outcome {
@@ -49,7 +62,7 @@ pub enum Outcome {
         answer: u32,
         node: usize,
         kind: u32,
-        code: u32,
+        code: u8,
     },
     Follow {
         answer: u32,
@@ -68,7 +81,7 @@ pub enum Outcome {
     },
     Prompt {
         answer: u32,
-        set: u64,
+        set: Codes,
     },
 }
 
@@ -168,11 +181,11 @@ pub fn judge(file: &[u8]) -> Outcome {
         }
     };
     match Procedure::new(tree).conflict {
-        Some(Conflict { node, kind, code }) => Outcome::Judge {
+        Some(conflict) => Outcome::Judge {
             answer: 7,
-            node,
-            kind,
-            code,
+            node: conflict.node,
+            kind: conflict.kind,
+            code: conflict.code(),
         },
         None => Outcome::Judge {
             answer: 0,

@@ -1,10 +1,13 @@
 //! The cases: calls made from a seed, by themes that take turns, so that
 //! every answer of every call comes up often enough whatever the seed.
 
+mod edges;
 mod writes;
 
 use crate::calls::{Call, Procedure, MOST_EVENTS};
+use crate::codes;
 use crate::damage::{self, FIELDS};
+use crate::file::MOST_REPEATS;
 use crate::grow::{self, SHAPES};
 use crate::limits;
 use crate::parse;
@@ -66,6 +69,7 @@ impl Maker {
         match theme {
             T::Bench => self.bench(turn),
             T::Field | T::Limit => self.any_call(theme, turn),
+            T::Edges => self.edges(turn),
             T::JudgeRefused | T::JudgeSmall | T::JudgeAdmitted => self.judge(theme, turn),
             T::JudgeConflicted | T::JudgeLarge | T::JudgeRepeats => self.judge(theme, turn),
             T::FollowRefused | T::FollowWrongState => self.follow_refused(theme, turn),
@@ -266,15 +270,16 @@ impl Maker {
                 .events()
                 .filter_map(|node| inner.tree.code(node))
                 .collect();
-            let own = (0..64).find(|code| !used.contains(code));
-            let (Some(own), true) = (own, inner.tree.repeats().len() < 32) else {
+            let free: Vec<u8> = codes::all().filter(|code| !used.contains(code)).collect();
+            if free.is_empty() || inner.tree.repeats().len() == MOST_REPEATS {
                 continue;
-            };
+            }
             let endless = Symbol::Repeat(Bounds {
                 lower: 0,
                 upper: None,
             });
-            let more = [Symbol::Event(own), Symbol::Sequence, endless];
+            let own = Symbol::Event(self.random.pick(&free));
+            let more = [own, Symbol::Sequence, endless];
             let tree = Tree::from_postfix([inner.tree.symbols(), &more].concat()).expect("a tree");
             return Procedure::new(tree);
         }

@@ -3,31 +3,38 @@
 //! there the automaton tells exactly what begins and what goes on.
 
 use crate::automaton::Automaton;
-use crate::tree::{Node, Symbol};
+use crate::codes::{self, Codes};
+use crate::tree::{Node, Symbol, Tree};
 
-/// A conflict with the numbers that Judge reports.
+/// A conflict with the codes that are shared; Judge reports the lowest.
 #[derive(Clone, Copy, Debug, PartialEq, Eq)]
 pub struct Conflict {
     pub node: Node,
     pub kind: u32,
-    pub code: u32,
+    pub shared: Codes,
+}
+
+impl Conflict {
+    pub fn code(&self) -> u8 {
+        codes::lowest(self.shared).expect("a conflict shares a code")
+    }
 }
 
 /// The sets of parts, by whichever way.
 pub trait Sets {
     /// The codes that begin the part's words.
-    fn first(&self, part: Node) -> u64;
+    fn first(&self, part: Node) -> Codes;
     /// The codes b such that v and v b w are words, v not empty.
-    fn after(&self, part: Node) -> u64;
+    fn after(&self, part: Node) -> Codes;
 }
 
 impl Sets for Automaton {
-    fn first(&self, part: Node) -> u64 {
-        codes(self, &self.first[part])
+    fn first(&self, part: Node) -> Codes {
+        codes_of(self, &self.first[part])
     }
 
     /// Some reachable place both ends the part and moves on inside it.
-    fn after(&self, part: Node) -> u64 {
+    fn after(&self, part: Node) -> Codes {
         let mut after = 0;
         for &event in &self.last[part] {
             let ends = self.acceptance(event, part);
@@ -36,7 +43,7 @@ impl Sets for Automaton {
                 .iter()
                 .filter(|step| self.tree.holds(part, step.by));
             for step in inside {
-                let code = codes(self, &[step.to]);
+                let code = codes_of(self, &[step.to]);
                 if after & code == 0 && self.guard(Some(event), step).meets(&ends) {
                     after |= code;
                 }
@@ -47,25 +54,25 @@ impl Sets for Automaton {
 }
 
 impl Sets for crate::words::Words<'_> {
-    fn first(&self, part: Node) -> u64 {
+    fn first(&self, part: Node) -> Codes {
         self.first(part)
     }
 
-    fn after(&self, part: Node) -> u64 {
+    fn after(&self, part: Node) -> Codes {
         self.after(part)
     }
 }
 
-fn codes(automaton: &Automaton, events: &[Node]) -> u64 {
+fn codes_of(automaton: &Automaton, events: &[Node]) -> Codes {
     let code = |&node: &Node| automaton.tree.code(node).expect("an event");
     events
         .iter()
         .map(code)
-        .fold(0, |codes, code| codes | 1 << code)
+        .fold(0, |set, code| set | codes::one(code))
 }
 
-/// The lowest conflict, its kind the lowest there, its code the lowest shared.
-pub fn lowest(tree: &crate::tree::Tree, sets: &dyn Sets) -> Option<Conflict> {
+/// The lowest conflict, its kind the lowest there.
+pub fn lowest(tree: &Tree, sets: &dyn Sets) -> Option<Conflict> {
     (0..tree.len()).find_map(|node| {
         let (kind, shared) = match tree.symbol(node) {
             Symbol::Empty | Symbol::Event(_) => return None,
@@ -77,12 +84,11 @@ pub fn lowest(tree: &crate::tree::Tree, sets: &dyn Sets) -> Option<Conflict> {
             Symbol::Repeat(bounds) if bounds.upper == Some(1) => return None,
             Symbol::Repeat(_) => (4, sets.after(tree.body(node)) & sets.first(tree.body(node))),
         };
-        let code = (0..64).find(|code| shared >> code & 1 == 1)?;
-        Some(Conflict { node, kind, code })
+        (shared != 0).then_some(Conflict { node, kind, shared })
     })
 }
 
-fn at_sequence(tree: &crate::tree::Tree, node: Node, sets: &dyn Sets) -> (u32, u64) {
+fn at_sequence(tree: &Tree, node: Node, sets: &dyn Sets) -> (u32, Codes) {
     let (left, right) = (tree.left(node), tree.right(node));
     let onto = sets.first(right);
     let skipped = if tree.nullable(left) {
@@ -105,9 +111,9 @@ mod tests {
     use crate::words::Words;
     use std::rc::Rc;
 
-    fn named(text: &str) -> Option<(usize, u32, u32)> {
+    fn named(text: &str) -> Option<(usize, u32, u8)> {
         let tree = tree(text);
-        let told = |conflict: Conflict| (conflict.node, conflict.kind, conflict.code);
+        let told = |conflict: Conflict| (conflict.node, conflict.kind, conflict.code());
         let by_automaton = lowest(&tree, &Automaton::new(Rc::new(tree.clone()))).map(told);
         let by_words = lowest(&tree, &Words::new(&tree)).map(told);
         assert_eq!(by_automaton, by_words, "{text}");
@@ -144,6 +150,20 @@ mod tests {
     #[test]
     fn kind_goes_before_code() {
         assert_eq!(named("(#5 #1{0,1}){0,1}(#5+#1)"), Some((8, 2, 5)));
+    }
+
+    /// The lowest of the shared codes, whichever words they are in; codes
+    /// that differ by a word's 64 are not shared.
+    #[test]
+    fn codes_of_both_words() {
+        assert_eq!(named("(#70+#40)+(#40+#70)"), Some((6, 1, 40)));
+        assert_eq!(named("(#64+#63){0,1}(#63+#64)"), Some((7, 2, 63)));
+        assert_eq!(named("(#127+#65){1,2}(#65+#127)"), Some((7, 3, 65)));
+        assert_eq!(named("((#127+#126){1,2}){3,4}"), Some((4, 4, 126)));
+        assert_eq!(named("#127{0,2}#127"), Some((3, 2, 127)));
+        assert_eq!(named("#5+#69"), None);
+        assert_eq!(named("#127{0,2}#63"), None);
+        assert_eq!(named("a#64{0,1}#64"), Some((5, 3, 64)));
     }
 
     /// Readings are lists of items, not derivations.

@@ -1,9 +1,15 @@
-//! What the cases cover: how many gave each answer, verdict, yes and no, and
-//! which share of Follow and Write had admitted files with nested repeats.
+//! What the cases cover: how many gave each answer, verdict, yes and no, what
+//! codes they had, and which share of Follow and Write had admitted files with
+//! nested repeats.
 
+use crate::automaton::Automaton;
 use crate::calls::{Call, Outcome};
-use crate::file;
-use crate::stream::LETTERS;
+use crate::codes::{Codes, HIGH, LOW_WORD};
+use crate::conflict;
+use crate::file::{self, MOST_CODE};
+use crate::stream::{letter, LETTERS};
+use crate::tree::Tree;
+use std::rc::Rc;
 
 /// Large sets must have each outcome this often, middling ones once; small
 /// sets are free.
@@ -23,6 +29,12 @@ const ANSWERS: [(&str, &[u32]); 5] = [
 const VERDICTS: [&str; 3] = ["complete", "unfinished", "broken"];
 const CHECKS: [&str; 2] = ["no", "yes"];
 const KINDS: [&str; 4] = ["kind 1", "kind 2", "kind 3", "kind 4"];
+/// Files that a call admits, and those that it refuses for a code.
+const FILES: [&str; 4] = ["low codes", "a high code", "the highest", "one too high"];
+/// Events that continue, and those that never do.
+const EVENTS: [&str; 2] = ["the highest taken", "one too high not taken"];
+/// What a set has codes in.
+const WORDS: [&str; 4] = ["no word", "the low word", "the high word", "both words"];
 
 /// The counts of one set of cases.
 #[derive(Default)]
@@ -34,8 +46,32 @@ pub struct Coverage {
     verdicts: [usize; 3],
     checks: [usize; 2],
     kinds: [usize; 4],
-    /// Cases of Follow and of Write, and those with nested repeats admitted.
-    nested: [(usize, usize); 2],
+    /// The files of each call by their codes, as in `FILES`.
+    files: [[usize; 4]; 5],
+    /// Follow's events and Write's runs, as in `EVENTS`.
+    events: [usize; 2],
+    runs: [usize; 2],
+    /// The codes that conflicts share and that prompts light, as in `WORDS`.
+    shared: [usize; 4],
+    prompts: [usize; 4],
+    /// Cases of each call that have admitted files with nested repeats.
+    nested: [usize; 5],
+}
+
+/// The words that a set has codes in, by its place in `WORDS`.
+fn words(set: Codes) -> usize {
+    usize::from(set & LOW_WORD != 0) + 2 * usize::from(set & !LOW_WORD != 0)
+}
+
+/// The codes that the lowest conflict of a file shares.
+fn shared(tree: Tree) -> Codes {
+    let automaton = Automaton::new(Rc::new(tree));
+    conflict::lowest(&automaton.tree, &automaton).map_or(0, |conflict| conflict.shared)
+}
+
+/// Whether the node's record is an event one code past the limit.
+fn is_too_high(file: &[u8], node: usize) -> bool {
+    file::records(file).is_ok_and(|records| records[node] == [1, MOST_CODE + 1, 0, 0, 0, 0, 0, 0])
 }
 
 impl Coverage {
@@ -47,58 +83,89 @@ impl Coverage {
     }
 
     pub fn add(&mut self, call: &Call, outcome: &Outcome) {
+        let row = LETTERS.find(letter(call)).expect("a call's letter");
+        let answer = outcome.answer();
         self.cases += 1;
-        let row = match *outcome {
-            Outcome::Judge { answer, kind, .. } => {
-                if answer == 7 {
-                    self.kinds[kind as usize - 1] += 1;
-                }
-                0
+        self.answers[row][answer as usize] += 1;
+        self.add_outcome(outcome);
+        self.add_events(call, outcome);
+        match file::read(call.file()) {
+            Ok(tree) if answer == 0 || answer > 7 => self.add_admitted(row, &tree),
+            Ok(tree) if letter(call) == 'J' => self.shared[words(shared(tree))] += 1,
+            Ok(_) => {}
+            Err(refusal) => {
+                let too_high = answer == 4 && is_too_high(call.file(), refusal.node);
+                self.files[row][3] += usize::from(too_high);
             }
-            Outcome::Follow {
-                answer, verdict, ..
-            } => {
-                self.verdicts[verdict as usize] += usize::from(answer == 0);
-                1
-            }
-            Outcome::Write { .. } => 2,
-            Outcome::Check { answer, yes } => {
-                self.checks[yes as usize] += usize::from(answer == 0);
-                3
-            }
-            Outcome::Prompt { .. } => 4,
-        };
-        self.answers[row][outcome.answer() as usize] += 1;
-        self.add_nested(call, outcome.answer());
+        }
     }
 
-    fn add_nested(&mut self, call: &Call, answer: u32) {
-        let (count, bytes) = match call {
-            Call::Follow { file, .. } => (&mut self.nested[0], file),
-            Call::Write { file, .. } => (&mut self.nested[1], file),
-            _ => return,
-        };
-        let admitted = answer == 0 || answer > 7;
-        let nested = admitted && file::read(bytes).is_ok_and(|tree| tree.has_nested_repeats());
-        count.0 += 1;
-        count.1 += usize::from(nested);
+    fn add_outcome(&mut self, outcome: &Outcome) {
+        match *outcome {
+            Outcome::Judge {
+                answer: 7, kind, ..
+            } => self.kinds[kind as usize - 1] += 1,
+            Outcome::Follow {
+                answer: 0, verdict, ..
+            } => self.verdicts[verdict as usize] += 1,
+            Outcome::Check { answer: 0, yes } => self.checks[yes as usize] += 1,
+            Outcome::Prompt { answer: 0, set } => self.prompts[words(set)] += 1,
+            _ => {}
+        }
+    }
+
+    fn add_events(&mut self, call: &Call, outcome: &Outcome) {
+        let too_high = &(MOST_CODE + 1);
+        match (call, outcome) {
+            (
+                Call::Follow { events, .. },
+                &Outcome::Follow {
+                    answer: 0, taken, ..
+                },
+            ) => {
+                self.events[0] += usize::from(events[..taken].contains(&MOST_CODE));
+                self.events[1] += usize::from(events.get(taken) == Some(too_high));
+            }
+            (Call::Write { run, .. }, Outcome::Write { answer: 0, .. }) => {
+                self.runs[0] += usize::from(run.contains(&MOST_CODE))
+            }
+            (Call::Write { run, .. }, Outcome::Write { answer: 10, .. }) => {
+                self.runs[1] += usize::from(run.contains(too_high))
+            }
+            _ => {}
+        }
+    }
+
+    fn add_admitted(&mut self, row: usize, tree: &Tree) {
+        let codes = || tree.events().filter_map(|node| tree.code(node));
+        let high = codes().any(|code| code >= HIGH);
+        self.files[row][usize::from(high)] += 1;
+        self.files[row][2] += usize::from(codes().any(|code| code == MOST_CODE));
+        self.nested[row] += usize::from(tree.has_nested_repeats());
     }
 
     /// What is counted of the calls that the set is to cover.
     fn rows(&self) -> Vec<Row> {
         let mut rows = Vec::new();
-        let counted = ANSWERS.iter().zip(&self.answers);
-        for (letter, ((heading, answers), counts)) in LETTERS.chars().zip(counted) {
-            let told = |answer: &u32| (answer.to_string(), counts[*answer as usize]);
+        for (row, (letter, (heading, answers))) in LETTERS.chars().zip(ANSWERS).enumerate() {
+            let told = |answer: &u32| (answer.to_string(), self.answers[row][*answer as usize]);
             rows.push(Row {
                 letter,
-                heading,
+                heading: heading.to_string(),
                 counts: answers.iter().map(told).collect(),
             });
         }
+        for (row, (letter, (call, _))) in LETTERS.chars().zip(ANSWERS).enumerate() {
+            let heading = format!("{call}'s files");
+            rows.push(Row::of(letter, &heading, &FILES, &self.files[row]));
+        }
         rows.push(Row::of('F', "verdicts", &VERDICTS, &self.verdicts));
+        rows.push(Row::of('F', "events", &EVENTS, &self.events));
+        rows.push(Row::of('W', "runs", &EVENTS, &self.runs));
         rows.push(Row::of('C', "checks", &CHECKS, &self.checks));
         rows.push(Row::of('J', "conflicts", &KINDS, &self.kinds));
+        rows.push(Row::of('J', "shared", &WORDS[1..], &self.shared[1..]));
+        rows.push(Row::of('P', "prompts", &WORDS, &self.prompts));
         rows.retain(|row| self.calls.contains(row.letter));
         rows
     }
@@ -106,10 +173,10 @@ impl Coverage {
     /// The calls that nested repeats are asked of, with all their cases and
     /// those on admitted files with such repeats.
     fn nested(&self) -> Vec<(&'static str, usize, usize)> {
-        let counted = [('F', "Follow"), ('W', "Write")].iter().zip(self.nested);
-        counted
-            .filter(|((letter, _), _)| self.calls.contains(*letter))
-            .map(|((_, call), (all, nested))| (*call, all, nested))
+        let asked = LETTERS.chars().zip(ANSWERS).enumerate();
+        asked
+            .filter(|(_, (letter, _))| "FW".contains(*letter) && self.calls.contains(*letter))
+            .map(|(row, (_, (call, _)))| (call, self.answers[row].iter().sum(), self.nested[row]))
             .collect()
     }
 
@@ -124,7 +191,7 @@ impl Coverage {
                 .iter()
                 .map(|(name, count)| format!("{name}: {count}"))
                 .collect();
-            text += &format!("{heading:<9} {}\n", cells.join(", "));
+            text += &format!("{heading:<14} {}\n", cells.join(", "));
         }
         for (call, all, nested) in self.nested() {
             text += &format!("{call} on admitted files with nested repeats: {nested} of {all}\n");
@@ -163,17 +230,138 @@ impl Coverage {
 /// One line of the table: outcomes of one call, each with its count.
 struct Row {
     letter: char,
-    heading: &'static str,
+    heading: String,
     counts: Vec<(String, usize)>,
 }
 
 impl Row {
-    fn of(letter: char, heading: &'static str, names: &[&str], counts: &[usize]) -> Row {
+    fn of(letter: char, heading: &str, names: &[&str], counts: &[usize]) -> Row {
         let names = names.iter().map(|name| name.to_string());
         Row {
             letter,
-            heading,
+            heading: heading.to_string(),
             counts: names.zip(counts.iter().copied()).collect(),
+        }
+    }
+}
+
+#[cfg(test)]
+mod tests {
+    use super::{Coverage, MIDDLING_SET};
+    use crate::calls::{answer, Call};
+    use crate::file;
+    use crate::parse::tree;
+    use crate::state::STATE_BYTES;
+    use crate::tree::Symbol;
+
+    /// What is lacking where every case of a middling set is this one.
+    fn lacking(call: Call) -> Vec<String> {
+        let mut coverage = Coverage::new(&crate::stream::letter(&call).to_string());
+        let outcome = answer(&call);
+        (0..MIDDLING_SET).for_each(|_| coverage.add(&call, &outcome));
+        coverage.gaps()
+    }
+
+    fn lacks(gaps: &[String], what: &str) -> bool {
+        gaps.contains(&format!("{what}: 0 of at least 1"))
+    }
+
+    fn file_of(text: &str) -> Vec<u8> {
+        file::write(&[], tree(text).symbols())
+    }
+
+    fn prompt(text: &str) -> Vec<String> {
+        lacking(Call::Prompt {
+            file: file_of(text),
+            state: vec![0; STATE_BYTES],
+        })
+    }
+
+    #[test]
+    fn each_word_of_a_prompt_is_asked_for() {
+        for (text, lit) in [
+            ("e", "no word"),
+            ("#0+#63", "the low word"),
+            ("#64+#127", "the high word"),
+            ("#63+#64", "both words"),
+        ] {
+            let gaps = prompt(text);
+            for words in super::WORDS {
+                let asked = format!("prompts {words}");
+                assert_eq!(lacks(&gaps, &asked), words != lit, "{text} {words}");
+            }
+        }
+    }
+
+    #[test]
+    fn each_sort_of_codes_is_asked_for() {
+        let low = prompt("#63");
+        assert!(!lacks(&low, "Prompt's files low codes"));
+        assert!(lacks(&low, "Prompt's files a high code"));
+        assert!(lacks(&low, "Prompt's files one too high"));
+        let high = prompt("#64");
+        assert!(lacks(&high, "Prompt's files low codes"));
+        assert!(!lacks(&high, "Prompt's files a high code"));
+        assert!(lacks(&high, "Prompt's files the highest"));
+        assert!(!lacks(&prompt("#127"), "Prompt's files the highest"));
+    }
+
+    #[test]
+    fn a_code_too_high_is_asked_for() {
+        let gaps = |code| {
+            lacking(Call::Judge {
+                file: file::write(&[], &[Symbol::Event(code)]),
+            })
+        };
+        assert!(!lacks(&gaps(128), "Judge's files one too high"));
+        assert!(lacks(&gaps(127), "Judge's files one too high"));
+        assert!(lacks(&gaps(129), "Judge's files one too high"));
+    }
+
+    #[test]
+    fn shared_codes_of_each_word_are_asked_for() {
+        for (text, found) in [
+            ("#63+#63", "the low word"),
+            ("#64+#64", "the high word"),
+            ("(#64+#0)+(#0+#64)", "both words"),
+        ] {
+            let gaps = lacking(Call::Judge {
+                file: file_of(text),
+            });
+            for words in &super::WORDS[1..] {
+                let asked = format!("shared {words}");
+                assert_eq!(lacks(&gaps, &asked), *words != found, "{text} {words}");
+            }
+        }
+    }
+
+    #[test]
+    fn events_at_the_limit_are_asked_for() {
+        let followed = |events: &[u8]| {
+            lacking(Call::Follow {
+                file: file_of("#127{0,}"),
+                state: vec![0; STATE_BYTES],
+                events: events.to_vec(),
+            })
+        };
+        let written = |run: &[u8]| {
+            lacking(Call::Write {
+                file: file_of("#127{0,}"),
+                run: run.to_vec(),
+                space: vec![0; 99],
+            })
+        };
+        for (events, taken, not_taken) in [
+            (&[126][..], false, false),
+            (&[127], true, false),
+            (&[128, 127], false, true),
+        ] {
+            for (heading, gaps) in [("events", followed(events)), ("runs", written(events))] {
+                let asked = format!("{heading} the highest taken");
+                assert_eq!(!lacks(&gaps, &asked), taken, "{heading} {events:?}");
+                let asked = format!("{heading} one too high not taken");
+                assert_eq!(!lacks(&gaps, &asked), not_taken, "{heading} {events:?}");
+            }
         }
     }
 }

@@ -1,8 +1,10 @@
 //! Files that are damaged: in any field at will, or so that a wanted answer
 //! refuses them.
 
-use crate::file::{self, MOST_FILE, MOST_NODES, MOST_TEXT, RECORD, TRAILER};
+use crate::codes::HIGH;
+use crate::file::{self, MOST_CODE, MOST_FILE, MOST_NODES, MOST_TEXT, RECORD, TRAILER};
 use crate::grow;
+use crate::palette::BEYOND;
 use crate::random::Random;
 use crate::tree::{Bounds, Node, Symbol, Tree};
 
@@ -45,7 +47,7 @@ pub fn field_damaged(random: &mut Random, field: usize) -> Vec<u8> {
         let node = random.below(procedure.tree.len());
         record_place(&bytes, procedure.tree.len(), node) + field - TRAILER
     };
-    let change = random.pick(&[1, 2, 4, 63, 64, 128, 255, 254]);
+    let change = random.pick(&[1, 2, 4, 63, 64, 127, 128, 255, 254]);
     bytes[place] = bytes[place].wrapping_add(change);
     bytes
 }
@@ -171,7 +173,7 @@ fn break_record(random: &mut Random, record: &mut [u8], symbol: Symbol) {
         return;
     }
     match symbol {
-        Symbol::Event(_) if random.percent(60) => record[1] = random.pick(&[64, 65, 128, 255]),
+        Symbol::Event(_) if random.percent(60) => record[1] = random.pick(&BEYOND),
         Symbol::Empty | Symbol::Event(_) => {
             let place = random.within(2, 7);
             record[place] = random.pick(&[1, 128]);
@@ -180,7 +182,9 @@ fn break_record(random: &mut Random, record: &mut [u8], symbol: Symbol) {
             let place = random.pick(&[1, 6, 7]);
             record[place] = random.pick(&[1, 128]);
         }
-        Symbol::Repeat(_) if random.percent(15) => record[1] = random.pick(&[1, 63, 64]),
+        Symbol::Repeat(_) if random.percent(15) => {
+            record[1] = random.pick(&[1, HIGH - 1, HIGH, MOST_CODE, MOST_CODE + 1])
+        }
         Symbol::Repeat(_) => {
             let wrong = [
                 (0, 0),

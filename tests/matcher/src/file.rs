@@ -8,7 +8,7 @@ pub const MOST_FILE: usize = 8_204;
 pub const MOST_NODES: usize = 512;
 pub const MOST_TEXT: usize = 4_096;
 pub const MOST_BOUND: u32 = 4_096;
-pub const MOST_CODE: u8 = 63;
+pub const MOST_CODE: u8 = 127;
 pub const MOST_REPEATS: usize = 32;
 pub const NO_BOUND: u32 = 65_535;
 pub const TRAILER: usize = 12;
@@ -33,8 +33,8 @@ fn number(bytes: &[u8]) -> u64 {
         .fold(0, |sum, &byte| sum * 256 + u64::from(byte))
 }
 
-/// The tree of a file, or the lowest of the answers 1 to 6 that applies.
-pub fn read(file: &[u8]) -> Result<Tree, Refusal> {
+/// The node records of a file, or the lowest of the answers 1 to 3 that applies.
+pub fn records(file: &[u8]) -> Result<Vec<&[u8]>, Refusal> {
     if file.len() < LEAST_FILE || file.len() > MOST_FILE {
         return refuse(1, 0);
     }
@@ -51,10 +51,15 @@ pub fn read(file: &[u8]) -> Result<Tree, Refusal> {
         return refuse(3, 0);
     }
     let first = file.len() - back;
-    let records: Vec<&[u8]> = file[first..first + RECORD * count].chunks(RECORD).collect();
+    Ok(file[first..first + RECORD * count].chunks(RECORD).collect())
+}
+
+/// The tree of a file, or the lowest of the answers 1 to 6 that applies.
+pub fn read(file: &[u8]) -> Result<Tree, Refusal> {
+    let records = records(file)?;
     let symbols = read_records(&records)?;
     read_order(&records, &symbols)?;
-    let repeats: Vec<Node> = (0..count)
+    let repeats: Vec<Node> = (0..symbols.len())
         .filter(|&i| matches!(symbols[i], Symbol::Repeat(_)))
         .collect();
     if let Some(&node) = repeats.get(MOST_REPEATS) {
@@ -198,12 +203,13 @@ mod tests {
             ANY,
             Symbol::Empty,
             Symbol::Choice,
-            Symbol::Event(63),
+            Symbol::Event(127),
             Symbol::Sequence,
         ];
         let file = write(b"text", &symbols);
         assert_eq!(file.len(), 4 + 8 * 6 + 12);
         assert_eq!(read(&file).unwrap().symbols(), symbols);
+        assert_eq!(file[36..44], [1, 127, 0, 0, 0, 0, 0, 0]);
         let repeat = [4, 0, 0, 0, 0, 0, 255, 255];
         assert_eq!(file[12..20], repeat);
         assert_eq!(file[28..36], [2, 0, 1, 0, 2, 0, 0, 0]);
@@ -219,7 +225,10 @@ mod tests {
         for (node, byte, to, told) in [
             (0, 0, 5, Some((4, 0))),
             (0, 1, 63, None),
-            (0, 1, 64, Some((4, 0))),
+            (0, 1, 64, None),
+            (0, 1, 127, None),
+            (0, 1, 128, Some((4, 0))),
+            (0, 1, 255, Some((4, 0))),
             (0, 2, 1, Some((4, 0))),
             (0, 5, 1, Some((4, 0))),
             (0, 7, 1, Some((4, 0))),
@@ -253,7 +262,7 @@ mod tests {
     /// All records are judged before any order.
     #[test]
     fn records_go_before_order() {
-        let mut file = write(&[], &[ANY, A, A, Symbol::Event(64)]);
+        let mut file = write(&[], &[ANY, A, A, Symbol::Event(128)]);
         assert_eq!(refusal(&file), Some((4, 3)));
         file[8 * 3 + 1] = 0;
         assert_eq!(refusal(&file), Some((5, 0)));

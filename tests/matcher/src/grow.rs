@@ -1,6 +1,8 @@
 //! Random trees: a shape, leaves, and repeats set around some of its parts.
 
 use crate::calls::Procedure;
+use crate::codes::{CODES, WORD};
+use crate::palette;
 use crate::random::Random;
 use crate::tree::{Bounds, Symbol, Tree};
 
@@ -32,14 +34,14 @@ pub enum Reach {
 }
 
 /// What a random tree is made of.
-#[derive(Clone, Copy, Debug)]
+#[derive(Clone, Debug)]
 pub struct Plan {
     pub leaves: usize,
     pub repeats: usize,
     pub shape: Shape,
     pub reach: Reach,
-    /// Codes are drawn below this number; where `rising` they follow in turn.
-    pub codes: usize,
+    /// Codes are drawn from these; where `rising` they follow in turn.
+    pub codes: Vec<u8>,
     pub rising: bool,
     /// Shares in a hundred: choices among the joints, empty among the leaves.
     pub choices: usize,
@@ -58,7 +60,7 @@ impl Plan {
         for _ in 0..self.repeats {
             wraps[random.below(parts)] += 1;
         }
-        let next_code = random.below(64);
+        let next_code = random.below(self.codes.len());
         let mut grower = Grower {
             plan: self,
             random,
@@ -111,13 +113,12 @@ impl Grower<'_, '_> {
         if self.random.percent(self.plan.empties) {
             return Symbol::Empty;
         }
+        let codes = &self.plan.codes;
+        if !self.plan.rising {
+            return Symbol::Event(self.random.pick(codes));
+        }
         self.next_code += 1;
-        let number = if self.plan.rising {
-            self.next_code
-        } else {
-            self.random.below(self.plan.codes)
-        };
-        Symbol::Event((number % self.plan.codes) as u8)
+        Symbol::Event(codes[self.next_code % codes.len()])
     }
 }
 
@@ -160,11 +161,16 @@ fn small_plan(random: &mut Random) -> Plan {
         repeats,
         shape: random.pick(&SHAPES),
         reach: random.pick(&[Reach::Small, Reach::Small, Reach::Exact, Reach::Wide]),
-        codes: random.pick(&[1, 2, 3, 5, 64]),
+        codes: palette::codes(random, &[1, 2, 3, 5, WORD, CODES]),
         rising: random.percent(50),
         choices: random.pick(&[20, 50, 80]),
         empties: random.pick(&[0, 10, 25, 40]),
     }
+}
+
+/// Codes for trees with many leaves: as many as a word has, or all.
+fn many_codes(random: &mut Random) -> Vec<u8> {
+    palette::codes(random, &[WORD, CODES])
 }
 
 /// A tree of up to some fifteen nodes, admitted or not.
@@ -172,14 +178,14 @@ pub fn small(random: &mut Random) -> Tree {
     made(small_plan(random).grow(random))
 }
 
-/// A tree with up to 64 leaves over many codes, often admitted.
+/// A tree with up to 40 leaves over many codes, often admitted.
 fn middle(random: &mut Random) -> Tree {
     let plan = Plan {
         leaves: random.within(4, 40),
         repeats: random.within(2, 12),
         shape: random.pick(&SHAPES),
         reach: random.pick(&[Reach::Small, Reach::Exact, Reach::Exact, Reach::Wide]),
-        codes: 64,
+        codes: many_codes(random),
         rising: true,
         choices: random.pick(&[5, 20, 40]),
         empties: random.pick(&[0, 5]),
@@ -196,7 +202,7 @@ pub fn large(random: &mut Random, shape: Shape) -> Tree {
         repeats,
         shape,
         reach: random.pick(&[Reach::Small, Reach::Exact, Reach::Wide]),
-        codes: 64,
+        codes: many_codes(random),
         rising: !random.percent(15),
         choices: random.pick(&[0, 0, 2, 10]),
         empties: random.pick(&[0, 0, 2]),
@@ -214,7 +220,7 @@ pub fn largest(random: &mut Random, shape: Shape) -> Tree {
         repeats,
         shape,
         reach: Reach::Exact,
-        codes: 64,
+        codes: many_codes(random),
         rising: true,
         choices,
         empties: 0,
@@ -226,9 +232,10 @@ pub fn largest(random: &mut Random, shape: Shape) -> Tree {
 /// So many repeats, each around one event more than the one inside.
 pub fn nest(random: &mut Random, repeats: usize) -> Vec<Symbol> {
     let reach = random.pick(&[Reach::Small, Reach::Exact, Reach::Wide]);
+    let codes = many_codes(random);
     let mut symbols = Vec::new();
     for level in 0..repeats {
-        symbols.push(Symbol::Event(level as u8 % 64));
+        symbols.push(Symbol::Event(codes[level % codes.len()]));
         if level > 0 {
             symbols.push(Symbol::Sequence);
         }
@@ -240,10 +247,11 @@ pub fn nest(random: &mut Random, repeats: usize) -> Vec<Symbol> {
 /// So many repeats side by side.
 pub fn row(random: &mut Random, repeats: usize) -> Vec<Symbol> {
     let reach = random.pick(&[Reach::Small, Reach::Exact, Reach::Wide]);
+    let codes = many_codes(random);
     let mut symbols = Vec::new();
     for place in 0..repeats {
         symbols.extend([
-            Symbol::Event(place as u8 % 64),
+            Symbol::Event(codes[place % codes.len()]),
             Symbol::Repeat(bounds(random, reach)),
         ]);
         if place > 0 {
@@ -256,15 +264,15 @@ pub fn row(random: &mut Random, repeats: usize) -> Vec<Symbol> {
 /// A repeat whose body may be empty, with a lower bound that normal form
 /// takes away; perhaps more after it and around it.
 fn hollow(random: &mut Random) -> Tree {
+    let codes = palette::codes(random, &[7]);
     let mut symbols = Vec::new();
     for item in 0..random.within(1, 3) {
-        let code = 3 * item as u8;
-        symbols.push(Symbol::Event(code));
+        symbols.push(Symbol::Event(codes[2 * item]));
         if random.percent(40) {
             symbols.push(Symbol::Repeat(bounds(random, Reach::Exact)));
         }
         if random.percent(30) {
-            symbols.extend([Symbol::Event(code + 1), Symbol::Sequence]);
+            symbols.extend([Symbol::Event(codes[2 * item + 1]), Symbol::Sequence]);
         }
         if item > 0 {
             symbols.push(Symbol::Choice);
@@ -279,7 +287,7 @@ fn hollow(random: &mut Random) -> Tree {
     let upper = random.pick(&[None, None, Some(lower), Some(4_096)]);
     symbols.push(Symbol::Repeat(Bounds { lower, upper }));
     if random.percent(60) {
-        symbols.extend([Symbol::Event(20), Symbol::Sequence]);
+        symbols.extend([Symbol::Event(codes[6]), Symbol::Sequence]);
     }
     if random.percent(60) {
         symbols.push(Symbol::Repeat(bounds(random, Reach::Small)));
@@ -364,7 +372,7 @@ fn joined(random: &mut Random) -> Tree {
     made(
         Plan {
             leaves: random.within(2, 7),
-            codes: random.within(2, 6),
+            codes: palette::codes(random, &[2, 3, 4, 5, 6]),
             choices: 10,
             ..plan
         }

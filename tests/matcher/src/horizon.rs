@@ -2,6 +2,7 @@
 //! a and b with bounds 0 to 3 or none.
 
 use crate::automaton::Automaton;
+use crate::codes;
 use crate::conflict;
 use crate::explored::Explored;
 use crate::notation::show;
@@ -227,8 +228,16 @@ fn candidate_places(tree: &Tree) -> Vec<Place> {
         .collect()
 }
 
+/// Two codes, as many of them the tree's own as it has.
+fn codes_tried(tree: &Tree) -> Vec<u8> {
+    let own: BTreeSet<u8> = tree.events().filter_map(|node| tree.code(node)).collect();
+    let others = codes::all().filter(|code| !own.contains(code));
+    own.iter().copied().chain(others).take(2).collect()
+}
+
 /// A run is a word exactly if some reading has its codes.
 fn same_words(tree: &Tree, words: &Words, listing: &mut Listing) -> Result<(), String> {
+    let tried = codes_tried(tree);
     let mut open = vec![(
         Vec::new(),
         vec![words.whole(tree.root())],
@@ -245,7 +254,7 @@ fn same_words(tree: &Tree, words: &Words, listing: &mut Listing) -> Result<(), S
         if run.len() == WORD_LENGTH {
             continue;
         }
-        for code in [0, 1] {
+        for &code in &tried {
             let steps = ways.iter().flat_map(|ways| &ways.steps);
             let on = steps
                 .filter(|step| tree.code(step.node) == Some(code))
@@ -268,7 +277,7 @@ fn same_prompt(tree: &Tree) -> Result<(), String> {
     let pairs = direct_pairs(&loose);
     for node in std::iter::once(None).chain(loose.events().map(Some)) {
         let follows = pairs.iter().filter(|pair| pair.0 == node);
-        let listed = follows.fold(0, |codes, pair| codes | 1 << pair.1);
+        let listed = follows.fold(0, |listed, pair| listed | codes::one(pair.1));
         agree(
             "the prompt",
             listed,

@@ -1,10 +1,12 @@
 //! Files at every limit of 01, from both sides.
 
-use crate::file::{self, MOST_TEXT, TRAILER};
+use crate::codes::{CODES, HIGH};
+use crate::file::{self, MOST_CODE, MOST_TEXT, TRAILER};
 use crate::tree::{Bounds, Symbol};
 
-/// How many files `file` tells apart.
-pub const FILES: usize = 47;
+/// How many files `file` tells apart. It has no common divisor with the numbers
+/// of calls, runs and records that take turns with them.
+pub const FILES: usize = 53;
 
 /// One of the files; each comment tells what is on either side.
 pub fn file(which: usize) -> Vec<u8> {
@@ -35,22 +37,33 @@ pub fn file(which: usize) -> Vec<u8> {
         16 => with_number(6, 2, None),
         17 => with_number(6, 257, None),
         18..=21 => with_letter(which - 18),
-        // Codes 63 and 64; kinds 4 and 5.
-        22 => file::write(&[], &[Symbol::Event(63)]),
-        23 => file::write(&[], &[Symbol::Event(64)]),
-        24 => with_kind(5),
+        // Codes; kinds 4 and 5.
+        22..=29 => file::write(&[], &[Symbol::Event(EVENTS[which - 22])]),
+        30 => with_kind(5),
         // Repeats: 32 and 33, in a row.
-        25 => file::write(&[], &repeats(32)),
-        26 => file::write(&[], &repeats(33)),
-        _ => bounds_file(which - 27),
+        31 => file::write(&[], &repeats(32)),
+        32 => file::write(&[], &repeats(33)),
+        _ => bounds_file(which - 33),
     }
 }
+
+/// Codes around the edge of the words, and around the limit.
+const EVENTS: [u8; 8] = [
+    HIGH - 1,
+    HIGH,
+    HIGH + 1,
+    MOST_CODE - 1,
+    MOST_CODE,
+    MOST_CODE + 1,
+    MOST_CODE + 1 + HIGH,
+    u8::MAX,
+];
 
 /// A sequence of so many nodes, its last a repeat where the number is even.
 fn chain(nodes: usize) -> Vec<Symbol> {
     let mut symbols = vec![Symbol::Event(0)];
     for place in 1..nodes.div_ceil(2) {
-        symbols.extend([Symbol::Event(place as u8 % 64), Symbol::Sequence]);
+        symbols.extend([Symbol::Event((place % CODES) as u8), Symbol::Sequence]);
     }
     if nodes % 2 == 0 {
         symbols.push(Symbol::Repeat(Bounds {
@@ -104,7 +117,7 @@ fn with_kind(kind: u8) -> Vec<u8> {
 }
 
 /// Lower and upper as they stand in the file, in pairs around each limit.
-const BOUNDS: [(u32, u32); FILES - 27] = [
+const BOUNDS: [(u32, u32); FILES - 33] = [
     (0, 0),
     (0, 1),
     (1, 1),
@@ -148,7 +161,8 @@ mod tests {
 
     /// The answer of each file, in order, worked out by hand.
     const ANSWERS: [u32; FILES] = [
-        0, 1, 0, 1, 0, 3, 0, 0, 3, 3, 3, 0, 3, 3, 3, 2, 2, 2, 2, 2, 2, 2, 0, 4, 4, 0, 6, //
+        0, 1, 0, 1, 0, 3, 0, 0, 3, 3, 3, 0, 3, 3, 3, 2, 2, 2, 2, 2, 2, 2, //
+        0, 0, 0, 0, 0, 4, 4, 4, 4, 0, 6, //
         4, 0, 0, 4, 4, 0, 0, 0, 4, 0, 4, 4, 0, 4, 0, 0, 4, 4, 0, 4,
     ];
 
@@ -167,6 +181,6 @@ mod tests {
             kind: 0,
             code: 0,
         };
-        assert_eq!(judge(&file(26)), refused);
+        assert_eq!(judge(&file(32)), refused);
     }
 }

@@ -1,6 +1,7 @@
 //! Calls as a stream of bytes, and what they give as lines of text.
 
 use crate::calls::{Call, Outcome};
+use crate::codes::{HIGH, LOW_WORD};
 use std::fmt::Write as _;
 
 /// The longest slice that a stream may hold.
@@ -64,7 +65,9 @@ pub fn line(outcome: &Outcome) -> String {
             space,
         } => format!("W {answer} {length} {}\n", hex(space)),
         Outcome::Check { answer, yes } => format!("C {answer} {yes}\n"),
-        Outcome::Prompt { answer, set } => format!("P {answer} {set}\n"),
+        Outcome::Prompt { answer, set } => {
+            format!("P {answer} {} {}\n", set & LOW_WORD, set >> HIGH)
+        }
     }
 }
 
@@ -85,7 +88,7 @@ pub fn field_names(letter: &str) -> &'static [&'static str] {
         "F" => &["call", "answer", "taken", "verdict", "state"],
         "W" => &["call", "answer", "length", "space"],
         "C" => &["call", "answer", "yes"],
-        "P" => &["call", "answer", "set"],
+        "P" => &["call", "answer", "low", "high"],
         _ => &[],
     }
 }
@@ -94,6 +97,7 @@ pub fn field_names(letter: &str) -> &'static [&'static str] {
 mod tests {
     use super::{bytes, line};
     use crate::calls::{Call, Outcome};
+    use crate::codes::{one, Codes};
 
     #[test]
     fn a_call_is_a_letter_and_counted_slices() {
@@ -130,5 +134,14 @@ mod tests {
             state: vec![],
         };
         assert_eq!(line(&refused), "F 8 0 0 -\n");
+    }
+
+    #[test]
+    fn a_prompt_is_told_by_two_words() {
+        let told = |set: Codes| line(&Outcome::Prompt { answer: 0, set });
+        assert_eq!(told(0), "P 0 0 0\n");
+        assert_eq!(told(one(0) | one(63)), "P 0 9223372036854775809 0\n");
+        assert_eq!(told(one(64) | one(127)), "P 0 0 9223372036854775809\n");
+        assert_eq!(told(one(1) | one(66)), "P 0 2 4\n");
     }
 }

@@ -8,6 +8,7 @@ pub enum Theme {
     Bench,
     Field,
     Limit,
+    Edges,
     JudgeRefused,
     JudgeSmall,
     JudgeAdmitted,
@@ -47,7 +48,7 @@ impl Theme {
     /// The letters of the calls that its cases make.
     pub fn letters(self) -> &'static str {
         match self {
-            T::Bench | T::Field | T::Limit => LETTERS,
+            T::Bench | T::Field | T::Limit | T::Edges => LETTERS,
             T::JudgeRefused | T::JudgeSmall | T::JudgeAdmitted => "J",
             T::JudgeConflicted | T::JudgeLarge | T::JudgeRepeats => "J",
             T::FollowRefused | T::FollowWrongState | T::FollowNested | T::FollowBroken => "F",
@@ -62,11 +63,12 @@ impl Theme {
 }
 
 /// How many cases of each theme a round has.
-pub const ROUND: [(Theme, usize); 34] = [
+pub const ROUND: [(Theme, usize); 35] = [
     (T::JudgeRefused, 12),
     (T::Bench, 20),
     (T::Field, 14),
     (T::Limit, 10),
+    (T::Edges, 40),
     (T::JudgeSmall, 10),
     (T::JudgeAdmitted, 6),
     (T::JudgeConflicted, 8),

@@ -2,6 +2,7 @@
 //! begin from, and breaks.
 
 use crate::automaton::Automaton;
+use crate::palette::{self, BEYOND, EDGES};
 use crate::random::Random;
 use crate::record::Item;
 use crate::state::Place;
@@ -95,13 +96,23 @@ impl Trail {
             .filter_map(|node| automaton.tree.code(node))
             .filter(stuck)
             .collect();
+        let strange: Vec<u8> = strange_codes(automaton, place).filter(stuck).collect();
         let code = if known.is_empty() || random.percent(30) {
-            random.pick(&[64, 65, 128, 191, 192, 255])
+            random.pick(&strange)
         } else {
             random.pick(&known)
         };
         [&self.codes[..at], &[code], &self.codes[at..]].concat()
     }
+}
+
+/// Codes that the procedure may lack: those at the edges, and those that might
+/// be taken for one that continues.
+fn strange_codes<'a>(automaton: &'a Automaton, place: &'a Place) -> impl Iterator<Item = u8> + 'a {
+    let on = automaton
+        .allowed(place)
+        .filter_map(|step| automaton.tree.code(step.to));
+    on.flat_map(palette::mistaken).chain(EDGES).chain(BEYOND)
 }
 
 /// A place that some run reaches: the start, one met on the way, or any event

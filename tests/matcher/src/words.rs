@@ -1,6 +1,7 @@
 //! Words by derivatives, on the bounds as written. What is still to come is
 //! a list of pieces; the derivative by a code is a set of such lists.
 
+use crate::codes::{self, Codes};
 use crate::state::Place;
 use crate::tree::{Bounds, Node, Symbol, Tree};
 use std::collections::BTreeSet;
@@ -24,7 +25,7 @@ const ONCE: Bounds = Bounds {
 pub struct Words<'t> {
     tree: &'t Tree,
     /// The codes that begin a word of each part.
-    begins: Vec<u64>,
+    begins: Vec<Codes>,
 }
 
 impl<'t> Words<'t> {
@@ -40,11 +41,11 @@ impl<'t> Words<'t> {
         words
     }
 
-    fn beginnings(&self, part: Node) -> u64 {
+    fn beginnings(&self, part: Node) -> Codes {
         let tree = self.tree;
         match tree.symbol(part) {
             Symbol::Empty => 0,
-            Symbol::Event(code) => 1 << code,
+            Symbol::Event(code) => codes::one(code),
             Symbol::Choice => self.begins[tree.left(part)] | self.begins[tree.right(part)],
             Symbol::Sequence if tree.nullable(tree.left(part)) => {
                 self.begins[tree.left(part)] | self.begins[tree.right(part)]
@@ -132,7 +133,7 @@ impl<'t> Words<'t> {
     }
 
     fn begins_with(&self, part: Node, code: u8) -> bool {
-        code < 64 && self.begins[part] >> code & 1 == 1
+        codes::has(self.begins[part], code)
     }
 
     fn derive_piece(&self, piece: Piece, code: u8, below: &mut Rest, found: &mut Vec<Rest>) {
@@ -193,13 +194,15 @@ impl<'t> Words<'t> {
     }
 
     /// The codes that begin what the lists may still bring.
-    pub fn codes_next(&self, rests: &[Rest]) -> u64 {
+    pub fn codes_next(&self, rests: &[Rest]) -> Codes {
         let has = |code: &u8| {
             rests
                 .iter()
                 .any(|rest| !self.derive(rest, *code).is_empty())
         };
-        (0..64).filter(has).fold(0, |codes, code| codes | 1 << code)
+        codes::all()
+            .filter(has)
+            .fold(0, |next, code| next | codes::one(code))
     }
 
     /// All lists that can come after the code from any of the given ones.
@@ -214,19 +217,19 @@ impl<'t> Words<'t> {
     }
 
     /// First of a part.
-    pub fn first(&self, part: Node) -> u64 {
+    pub fn first(&self, part: Node) -> Codes {
         self.codes_next(&[self.whole(part)])
     }
 
     /// After of a part as 01 words it, for any part: every derivative is
     /// visited. Fit for small bounds only.
-    pub fn after(&self, part: Node) -> u64 {
+    pub fn after(&self, part: Node) -> Codes {
         let mut after = 0;
         let mut seen: BTreeSet<Vec<Rest>> = BTreeSet::new();
         let mut open = vec![vec![self.whole(part)]];
         while let Some(rests) = open.pop() {
             let next = self.codes_next(&rests);
-            for code in (0..64).filter(|code| next >> code & 1 == 1) {
+            for code in codes::all().filter(|&code| codes::has(next, code)) {
                 let derived = self.derive_all(&rests, code);
                 if !seen.insert(derived.clone()) {
                     continue;
@@ -261,6 +264,7 @@ fn push(rest: &mut Rest, piece: Piece) {
 #[cfg(test)]
 mod tests {
     use super::Words;
+    use crate::codes::one;
     use crate::parse::tree;
 
     fn words_up_to(text: &str, most: usize) -> Vec<String> {
@@ -287,6 +291,20 @@ mod tests {
         assert_eq!(words_up_to("(a{0,1}){0,2}b", 4), ["aab", "ab", "b"]);
         assert_eq!(words_up_to("(a{2,2}){0,}", 5), ["", "aa", "aaaa"]);
         assert_eq!(words_up_to("(ab){1,2}", 4), ["ab", "abab"]);
+    }
+
+    #[test]
+    fn codes_at_the_limit() {
+        let tree = tree("(#127{1,2}+#64)#63");
+        let words = Words::new(&tree);
+        assert_eq!(words.first(tree.root()), one(127) | one(64));
+        assert_eq!(words.after(1), one(127));
+        assert!(words.is_word(&[127, 127, 63]));
+        assert!(words.is_word(&[64, 63]));
+        // What a word or a byte's highest bit away would be taken for.
+        for strange in [0, 63, 128, 192, 255] {
+            assert!(!words.is_word(&[strange, 63]), "{strange}");
+        }
     }
 
     /// Source 000, introduction: the two expressions have one language.

@@ -1,25 +1,29 @@
--- `codes::has` meets its contract: below 64 the code's bit decides, and no code from 64 on is in a set. Assumes nothing.
-use mathlib.Core.Path.{_≡_}
-use Prim.Native.Nat.{ℕ, _/_, _%_, _^_}
+-- `codes::has` meets its contract: the one word or the other decides. Assumes nothing.
 use native.Mathlib.Omega.{arith}
 use borrow.Author.Needs.{needs}
-use borrow.Author.Tests.{eq-eqb, eqb-true}
-use Rattle.codes.specs.Codes.{Has}
-use Rattle.codes.proofs.Members.{has-below}
+use Rattle.codes.proofs.Pairs.{high-told, low-told}
 use Rattle.codes.proofs.has.Statement.{statement}
 use Rattle.codes.proofs.has.Tie as tie
 
-shr-result : tie.Need-shr-result
-shr-result c = search needs
+array-read-has : tie.Need-array-read-has
+array-read-has c = search needs
+
+has-requires : tie.Need-has-requires
+has-requires c κs = search needs
 
 returns : tie.Need-returns
-unfolding Has
-returns c = let a = c .before .args in (eqb-true (a .s / 2 ^ a .code % 2) 1, eq-eqb (a .s / 2 ^ a .code % 2) 1)
+returns c = let a = c .before .before .args in low-told (a .t1) (a .code) _ (c .before .has .ensures) (c .if1 .taken)
+
+array-read-has-2 : tie.Need-array-read-has-2
+array-read-has-2 c = search needs
+
+has-requires-2 : tie.Need-has-requires-2
+has-requires-2 c κs = search needs
 
 returns-2 : tie.Need-returns-2
 returns-2 c =
-    let a = c .before .args in
-    (λ e. absurd (let z : _≡_ {A = ℕ} 0 1 = cc in omega arith), λ h. absurd (omega (arith, has-below (a .s) (a .code) (c .before .fits .s .fits) h)))
+    let a = c .before .before .before .args in
+    high-told (a .t1) (a .code) _ (c .before .before .has .ensures .1) (omega (arith, c .before .if1 .left)) (c .has2 .ensures .0)
 
 pub has-spec : {M : Type 1} → statement M
-has-spec = tie.close (tie.spec shr-result returns returns-2)
+has-spec = tie.close (tie.spec array-read-has has-requires returns array-read-has-2 has-requires-2 returns-2)

@@ -1,13 +1,40 @@
--- `codes::shared` meets its contract, by the law of `both`. Assumes nothing.
-use mathlib.Core.Path.{refl}
-use Rattle.codes.specs.Codes.{both}
-use Rattle.codes.proofs.Members.{both-has}
+-- `codes::shared` meets its contract, word by word. Assumes nothing.
+use borrow.Author.Needs.{needs}
+use Rattle.codes.proofs.Pairs.{shared-contains}
 use Rattle.codes.proofs.shared.Statement.{statement}
 use Rattle.codes.proofs.shared.Tie as tie
 
+array-read-shared : tie.Need-array-read-shared
+array-read-shared c = search needs
+
+array-read-shared-2 : tie.Need-array-read-shared-2
+array-read-shared-2 c = search needs
+
+shared-requires : tie.Need-shared-requires
+shared-requires c κs = search needs
+
+array-read-shared-3 : tie.Need-array-read-shared-3
+array-read-shared-3 c = search needs
+
+array-read-shared-4 : tie.Need-array-read-shared-4
+array-read-shared-4 c = search needs
+
+shared-requires-2 : tie.Need-shared-requires-2
+shared-requires-2 c κs = search needs
+
 returns : tie.Need-returns
-unfolding both
-returns c = (both-has (c .args .a) (c .args .b), refl)
+returns c =
+    let a = c .before .before .args in
+    shared-contains (a .t1) (a .t2) _ _ (c .before .shared .ensures) (c .shared2 .ensures .0)
 
 pub shared-spec : {M : Type 1} → statement M
-shared-spec = tie.close (tie.spec returns)
+shared-spec =
+    tie.close
+    (tie.spec
+    array-read-shared
+    array-read-shared-2
+    shared-requires
+    array-read-shared-3
+    array-read-shared-4
+    shared-requires-2
+    returns)

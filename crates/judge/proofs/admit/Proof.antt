@@ -45,15 +45,10 @@ opened c =
     let read = c .before .before in
     filled (file read) (nodes read) (starts read) (nulls read) (repeats read) (read .read .result) _ _ (read .read .ensures) (c .n .given .1)
 
-slice-aggregate-fill-sets : tie.Need-slice-aggregate-fill-sets
-slice-aggregate-fill-sets c = search needs
-
-fill-sets-requires : tie.Need-fill-sets-requires
-fill-sets-requires c κs =
-    let tables = opened (c .before .before .before .before .before) .tables in (
-      (omega (arith, tables .listing .few, c .before .fill-sets-arg3 .given .0 .1), omega (arith, tables .listing .few)),
-      ((_, tables .listing), tables .empties),
-    )
+lowest-conflict-requires : tie.Need-lowest-conflict-requires
+lowest-conflict-requires c κs =
+    let tables = opened (c .before .before .before .before) .tables in
+    (omega (arith, tables .listing .few, c .lowest-conflict-arg3 .given .0 .1), ((_, tables .listing), tables .empties))
 
 lowest-requires : tie.Need-lowest-requires
 lowest-requires c κs = search needs
@@ -62,10 +57,10 @@ returns : tie.Need-returns
 returns c =
     let looked = c .before in
     let found = looked .before .before in
-    let n = found .before .before .before .before .before .before in
+    let n = found .before .before .before .before .before in
     let read = n .before .before in
     admits-not (file read) (nodes read) (starts read) (nulls read) (repeats read) (read .read .result) _ _ (read .read .ensures) (n .n .given .1)
-    (found .fill-sets .result) (looked .lowest .result) (found .fill-sets .ensures .1 .1) (looked .lowest .ensures) (c .if1 .taken)
+    (found .lowest-conflict .result) (looked .lowest .result) (found .lowest-conflict .ensures .1) (looked .lowest .ensures) (c .if1 .taken)
 
 returns-2 : tie.Need-returns-2
 returns-2 c =
@@ -76,10 +71,10 @@ returns-3 : tie.Need-returns-3
 returns-3 c =
     let looked = c .before in
     let found = looked .before .before in
-    let n = found .before .before .before .before .before .before in
+    let n = found .before .before .before .before .before in
     let read = n .before .before in
     admits-nodes (file read) (nodes read) (starts read) (nulls read) (repeats read) (read .read .result) _ _ (read .read .ensures) (n .n .given .1)
-    (found .fill-sets .result) (looked .lowest .result) (found .fill-sets .ensures .1 .1) (looked .lowest .ensures) _ (λ l. omega arith) (found .fill-sets .ensures .0)
+    (found .lowest-conflict .result) (looked .lowest .result) (found .lowest-conflict .ensures .1) (looked .lowest .ensures) _ (λ l. omega arith) (found .lowest-conflict .ensures .0)
 
 pub admit-spec : {M : Type 1} → statement M
 admit-spec =
@@ -88,8 +83,7 @@ admit-spec =
     read-requires
     enum-known-r
     enum-known-n
-    slice-aggregate-fill-sets
-    fill-sets-requires
+    lowest-conflict-requires
     lowest-requires
     returns
     returns-2

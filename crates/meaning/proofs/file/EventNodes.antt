@@ -1,14 +1,15 @@
--- The event nodes of an expression as they stand in node records; a file's codes are at most 63, so a code above never continues.
+-- The event nodes of an expression as they stand in node records; a file's codes are at most 127, so a code above never continues.
 use mathlib.Core.Path.{_≡_, refl, sym, ap, _∙_, subst}
 use mathlib.Core.Logic.{_⊎_, inl, inr}
 use mathlib.Core.List.{List, [], _∷_, _++_, append-assoc, head-eq-of-cons-eq, tail-eq-of-cons-eq, cons≢nil}
 use Prim.Native.Nat.{ℕ, suc, _+_, _≤_, _<_}
 use native.Mathlib.Decide.{decLt}
 use native.Mathlib.Omega.{arith}
-use Rattle.meaning.specs.Expr.{Expr, empty, event, choice, sequence, repeat, size, Part}
-use Rattle.meaning.specs.Word.{Begins}
+use Rattle.meaning.specs.Codes.{mostCode}
+use Rattle.meaning.specs.Expr.{Expr, empty, event, choice, sequence, repeat, size, Part, Bounded}
+use Rattle.meaning.specs.Word.{Word, Begins}
 use Rattle.meaning.specs.Reading.{Item, place, opening, closing, codes}
-use Rattle.meaning.specs.Node.{Node, node, InTable, empty-line, event-line, choice-line, sequence-line, repeat-line, Stands}
+use Rattle.meaning.specs.Node.{Node, node, InTable, InTableTo, empty-line, event-line, choice-line, sequence-line, repeat-line, Stands}
 use Rattle.meaning.specs.File.{Holds, nodeAt}
 use Rattle.meaning.specs.theory.Places.{Place}
 use Rattle.meaning.specs.theory.Spots.{Spot}
@@ -74,18 +75,18 @@ pub no-way-stands : (g : ℕ → Node) (e : Expr) (k : Spot e) (c : ℕ) → Sta
 unfolding NoWay
 no-way-stands g e k c st never q w = never q (omega (arith, part-within 0 e q (event c) w)) (part-stands g 0 e q c st w)
 
--- ---- codes above 63
+-- ---- codes above 127
 
 -- the code of an event in the table
-line-code : {k c x y z : ℕ} → InTable (node k c x y z) → k ≡ 1 → c ≤ 63
+line-code : {most k c x y z : ℕ} → InTableTo most (node k c x y z) → k ≡ 1 → c ≤ most
 line-code empty-line h = absurd (omega arith)
 line-code (event-line c l) h = l
 line-code (choice-line l r) h = absurd (omega arith)
 line-code (sequence-line l r) h = absurd (omega arith)
 line-code (repeat-line b lower upper l w o) h = absurd (omega arith)
 
--- every event code of a file's expression is at most 63
-pub code-small : (f : List ℕ) (e : Expr) (q c : ℕ) → Holds f e → Part 0 e q (event c) → c ≤ 63
+-- every event code of a file's expression is at most 127
+pub code-small : (f : List ℕ) (e : Expr) (q c : ℕ) → Holds f e → Part 0 e q (event c) → c ≤ mostCode
 code-small f e q c h w =
     let lists = h .formed .lists in
     let within = part-within 0 e q (event c) w in
@@ -101,9 +102,19 @@ code-named e (place i d ∷ x) (b ∷ u) v c a h = code-named e x u v c (a .1) (
 code-named e (opening r ∷ x) u v c a h = code-named e x u v c (a .1) h
 code-named e (closing r ∷ x) u v c a h = code-named e x u v c (a .1) h
 
--- a code above 63 never continues
-pub above-never-continues : (f : List ℕ) (e : Expr) (w : List ℕ) (c : ℕ) → Holds f e → 63 < c → ¬ Begins e (w ++ (c ∷ []))
-above-never-continues f e w c h l b =
-    let x = word-iff-reading 0 e (holds-bounded h) _ .0 (b .1) in
-    let t = code-named e (x .0) w (b .0) c (reading-names 0 e (x .0) (x .1)) (x .2 ∙ append-assoc w (c ∷ []) (b .0)) in
+-- and so is each code of a word
+pub word-code : (e : Expr) → Bounded e → (u v : List ℕ) (c : ℕ) → Word e (u ++ (c ∷ v)) → (q : ℕ) × Part 0 e q (event c)
+word-code e h u v c w =
+    let x = word-iff-reading 0 e h _ .0 w in
+    code-named e (x .0) u v c (reading-names 0 e (x .0) (x .1)) (x .2)
+
+-- a code above 127 is in no word
+pub above-in-no-word : (f : List ℕ) (e : Expr) (u v : List ℕ) (c : ℕ) → Holds f e → mostCode < c → ¬ Word e (u ++ (c ∷ v))
+above-in-no-word f e u v c h l w =
+    let t = word-code e (holds-bounded h) u v c w in
     omega (arith, code-small f e (t .0) c h (t .1))
+
+-- and never continues
+pub above-never-continues : (f : List ℕ) (e : Expr) (w : List ℕ) (c : ℕ) → Holds f e → mostCode < c → ¬ Begins e (w ++ (c ∷ []))
+above-never-continues f e w c h l b =
+    above-in-no-word f e w (b .0) c h l (subst (Word e) (append-assoc w (c ∷ []) (b .0)) (b .1))

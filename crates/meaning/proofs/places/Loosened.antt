@@ -305,6 +305,13 @@ follows-iff-near e h p j c =
     let x = loosen-loose e h in
     Iff·trans (follows-iff-stepped (loosen e) (loose-bounded x) (nodeOf 0 e p) j c) (stepped-iff-near x p j c)
 
+-- and what follows one is an event node
+pub lit-part : (e : Expr) → Bounded e → (i c : ℕ) → Lights e (suc i) c → (j : ℕ) × Part 0 e j (event c)
+lit-part e h i c f =
+    let x = loosen-loose e h in
+    let k = follows-iff-stepped (loosen e) (loose-bounded x) i (f .0) c .0 (f .1) in
+    (f .0, loose-part x 0 0 refl (f .0) c .1 (subst₂ (λ (n a : ℕ). Part 0 (loosen e) n (event a)) (k .to-node) (k .to-code) (place-part 0 (loosen e) (k .to))))
+
 -- so a code is lit at a place exactly if it is that of an event node that is near
 pub lights-iff-near : (e : Expr) → Bounded e → (p : Place e) (c : ℕ) → Lights e (suc (nodeOf 0 e p)) c ↔ ((j : ℕ) × Near 0 e p j × Part 0 e j (event c))
 lights-iff-near e h p c = (

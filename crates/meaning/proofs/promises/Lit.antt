@@ -5,7 +5,7 @@ use Prim.Native.Nat.{ℕ, _+_}
 use native.Mathlib.Numerals.{add-one}
 use Rattle.meaning.specs.declared.PromptAnswer.the-variants as prompt
 use Rattle.meaning.specs.Bytes.{twoAt}
-use Rattle.meaning.specs.Codes.{Has}
+use Rattle.meaning.specs.Codes.{Has, inWords}
 use Rattle.meaning.specs.Expr.{Expr, Bounded}
 use Rattle.meaning.specs.File.{Admitted}
 use Rattle.meaning.specs.Promises.{Lights, Prompts}
@@ -72,9 +72,9 @@ continues-lit e h d u z c r b =
     (subst (λ (a : ℕ). Lights e (spotNode e (k .to .0)) a) (next .1 .1) (move-lit e h (k .to .0) (next .0) (next .1 .0)))
 
 -- so it is in the set that Prompt gives
-pub prompt-hides-nothing : (f state : List ℕ) (set : ℕ) → Prompts f state (prompt.Lit set) → (e : Expr) → Admitted f e
-    → (u : List ℕ) → ReachesBytes e u state → (c : ℕ) → Begins e (u ++ (c ∷ [])) → Has set c
-prompt-hides-nothing f state set (Prompts.lit d v other told came small holds) e admitted u r c b =
+pub prompt-hides-nothing : (f state : List ℕ) (low high : ℕ) → Prompts f state (prompt.Lit low high) → (e : Expr) → Admitted f e
+    → (u : List ℕ) → ReachesBytes e u state → (c : ℕ) → Begins e (u ++ (c ∷ [])) → Has (inWords low high) c
+prompt-hides-nothing f state low high (Prompts.lit d v low′ high′ told came small short holds) e admitted u r c b =
     let same = admitted-unique f d e told admitted in
     let z = r .0 in
     let lit = continues-lit e (holds-bounded (admitted .holds)) (admitted .strong) u z c (r .1) b in

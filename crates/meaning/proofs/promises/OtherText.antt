@@ -49,7 +49,7 @@ module _ {f g : List ℕ} (a : ReadAlike f g) where
   prompts-too : (state : List ℕ) (answer : PromptAnswer) → Prompts f state answer → Prompts g state answer
   prompts-too state answer (Prompts.refused r p) = Prompts.refused r (barred-too r p)
   prompts-too state answer (Prompts.unreached e p n) = Prompts.unreached e (admitted-too e p) n
-  prompts-too state answer (Prompts.lit e u set p n l h) = Prompts.lit e u set (admitted-too e p) n l h
+  prompts-too state answer (Prompts.lit e u low high p n l k h) = Prompts.lit e u low high (admitted-too e p) n l k h
 
 -- ---- the calls
 

@@ -34,7 +34,7 @@ abbrev at : tie.After-sets-at Inv-loop μ-loop → tie.At-loop Inv-loop μ-loop
 at m = m .before .before .before .before
 
 abbrev start : tie.At-loop Inv-loop μ-loop → tie.Start Inv-loop μ-loop
-start a = a .before .before .before .before
+start a = a .before .before
 
 abbrev nodes : tie.At-loop Inv-loop μ-loop → ℕ → Node
 nodes a = held (start a .args .nodes .now)
@@ -45,29 +45,33 @@ some b = listing-some (b .pre .1 .0 .1)
 inside : (m : tie.In-loop Inv-loop μ-loop) → m .before .loop .i < start (m .before) .args .n
 inside m = omega (arith, some (start (m .before)))
 
+-- the node's sets, as they were worked out before the turn ended
+abbrev own : tie.Joined1 Inv-loop μ-loop → tie.After-sets-at Inv-loop μ-loop
+own m = m .before .before .before .before .before .before
+
 -- past the node, what is found is the lowest conflict up to it
-found-next : (m : tie.Joined1 Inv-loop μ-loop) (e : Expr) → Listing (start (at (m .before .before .before .before)) .args .nodes .now) (start (at (m .before .before .before .before)) .args .n) e
-    → Lowest (BelowNode (at (m .before .before .before .before) .loop .i + 1) (ConflictAt 0 e)) (m .if1 .found)
+found-next : (m : tie.Joined1 Inv-loop μ-loop) (e : Expr) → Listing (start (at (own m)) .args .nodes .now) (start (at (own m)) .args .n) e
+    → Lowest (BelowNode (at (own m) .loop .i + 1) (ConflictAt 0 e)) (m .if1 .found)
 found-next m e l =
-    let own = m .before .before .before .before in
-    let a = at own in
+    let worked = own m in
+    let a = at worked in
     let i = a .loop .i in
-    let x = own .sets-at .result in
-    let here = inside (own .before .before .before) in
+    let x = worked .sets-at .result in
+    let here = inside (worked .before .before .before) in
     let R = BelowNode (i + 1) (ConflictAt 0 e) in
-    let some = m .before .before .any in
-    let had = m .before .any2 in
+    let some = m .before .before .is-one in
+    let had = m .before .is-one2 in
     ⊎-elim
-    (λ w. subst (Lowest R) (sym (w .1)) (found-here e l i here x (own .sets-at .ensures) (a .loop .inv .5 e l) (some .result) (had .result) (had .ensures) (w .0 .taken)))
+    (λ w. subst (Lowest R) (sym (w .1)) (found-here e l i here x (worked .sets-at .ensures) (a .loop .inv .5 e l) (some .result) (had .result) (had .ensures) (w .0 .taken)))
     (λ w. subst (Lowest R) (sym (w .1))
-    (found-before e l i here x (own .sets-at .ensures) (a .loop .inv .5 e l) (some .result) (had .result) (some .ensures) (had .ensures) (w .0 .left)))
+    (found-before e l i here x (worked .sets-at .ensures) (a .loop .inv .5 e l) (some .result) (had .result) (some .ensures) (had .ensures) (w .0 .left)))
     (m .if1 .came)
 
 nothing-requires : tie.Need-nothing-requires Inv-loop μ-loop
 nothing-requires c κs = search needs
 
 sub-last : tie.Need-sub-last Inv-loop μ-loop
-sub-last c = some (c .before .before .before)
+sub-last c = some (c .before)
 
 loop-holds : tie.Need-loop-holds Inv-loop μ-loop
 loop-holds c =
@@ -87,42 +91,42 @@ sets-at-requires c κs =
       ),
     )
 
-mul-firsts : tie.Need-mul-firsts Inv-loop μ-loop
-mul-firsts c = search needs
+mul-first : tie.Need-mul-first Inv-loop μ-loop
+mul-first c = search needs
 
-slice-write-firsts : tie.Need-slice-write-firsts Inv-loop μ-loop
-slice-write-firsts c = omega (arith, inside (c .before .before .before))
+slice-set-from-first : tie.Need-slice-set-from-first Inv-loop μ-loop
+slice-set-from-first c = omega (arith, inside (c .before .before .before .before .before))
 
-mul-afters : tie.Need-mul-afters Inv-loop μ-loop
-mul-afters c = search needs
+mul-after : tie.Need-mul-after Inv-loop μ-loop
+mul-after c = search needs
 
-slice-write-afters : tie.Need-slice-write-afters Inv-loop μ-loop
-slice-write-afters c = omega (arith, inside (c .before .before .before))
+slice-set-from-after : tie.Need-slice-set-from-after Inv-loop μ-loop
+slice-set-from-after c = omega (arith, inside (c .before .before .before .before .before))
 
-any-requires : tie.Need-any-requires Inv-loop μ-loop
-any-requires c κs = search needs
+is-one-requires : tie.Need-is-one-requires Inv-loop μ-loop
+is-one-requires c κs = search needs
 
-any-requires-2 : tie.Need-any-requires-2 Inv-loop μ-loop
-any-requires-2 c κs = search needs
+is-one-requires-2 : tie.Need-is-one-requires-2 Inv-loop μ-loop
+is-one-requires-2 c κs = search needs
 
 add-i : tie.Need-add-i Inv-loop μ-loop
 add-i c = search needs
 
 loop-less : tie.Need-loop-less Inv-loop μ-loop
-loop-less c = omega (arith, inside (c .before .before .before .before .before .before .before))
+loop-less c = omega (arith, inside (own c .before .before .before))
 
 loop-again : tie.Need-loop-again Inv-loop μ-loop
 loop-again c =
-    let own = c .before .before .before .before in
-    let a = at own in
+    let worked = own c in
+    let a = at worked in
     let i = a .loop .i in
-    let x = own .sets-at .result in
-    let here = inside (own .before .before .before) in (
+    let x = worked .sets-at .result in
+    let here = inside (worked .before .before .before) in (
       omega arith,
       simp length-set (a .loop .inv .1),
       simp length-set (a .loop .inv .2),
-      sets-more First (nodes a) (a .loop .firsts) i (x .first) (omega arith) (a .loop .inv .3) (first-at (nodes a) i x (own .sets-at .ensures)),
-      sets-more After (nodes a) (a .loop .afters) i (x .after) (omega arith) (a .loop .inv .4) (after-at (nodes a) i x (own .sets-at .ensures)),
+      sets-more First (nodes a) (a .loop .firsts) i (x .first) (omega arith) (a .loop .inv .3) (first-at (nodes a) i x (worked .sets-at .ensures)),
+      sets-more After (nodes a) (a .loop .afters) i (x .after) (omega arith) (a .loop .inv .4) (after-at (nodes a) i x (worked .sets-at .ensures)),
       found-next c,
     )
 
@@ -154,12 +158,12 @@ fill-sets-spec =
     sub-last
     loop-holds
     sets-at-requires
-    mul-firsts
-    slice-write-firsts
-    mul-afters
-    slice-write-afters
-    any-requires
-    any-requires-2
+    mul-first
+    slice-set-from-first
+    mul-after
+    slice-set-from-after
+    is-one-requires
+    is-one-requires-2
     add-i
     loop-less
     loop-again

@@ -13,7 +13,7 @@ use Rattle.sets.proofs.sets_at.Tie as tie
 -- ---- what is known of the node once its kind is read
 
 abbrev start : tie.After-kind-of → tie.Start
-start k = k .before .before .before .before
+start k = k .before .before
 
 abbrev nodes : tie.After-kind-of → ℕ → Node
 nodes k = held (start k .args .nodes .now)

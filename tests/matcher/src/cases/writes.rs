@@ -2,7 +2,9 @@
 
 use super::Maker;
 use crate::calls::{record_of, Call, Procedure, MOST_EVENTS};
+use crate::codes::{CODES, WORD};
 use crate::damage;
+use crate::palette;
 use crate::state::Place;
 use crate::themes::{Theme, Theme as T};
 use crate::trail::Trail;
@@ -45,7 +47,7 @@ impl Maker {
     }
 
     /// Space for a record of so many bytes: just enough, too little or more.
-    fn space(&mut self, length: usize) -> Vec<u8> {
+    pub(super) fn space(&mut self, length: usize) -> Vec<u8> {
         let short = self.random.pick(&[1, 1, 2, 2, 3, length / 2, length]);
         let more = self.random.pick(&[1, 2, 3, 16]);
         let count = match self.random.below(10) {
@@ -78,9 +80,11 @@ impl Maker {
     /// time; else one of some thousands. The record fits or just does not.
     pub(super) fn write_longest(&mut self, turn: usize) -> Call {
         let block = self.random.pick(&[16, 64, 128, 256]);
-        let mut symbols: Vec<Symbol> = vec![Symbol::Event(0)];
+        let codes = palette::codes(&mut self.random, &[WORD, CODES]);
+        let code = |place: usize| codes[place % block % codes.len()];
+        let mut symbols: Vec<Symbol> = vec![Symbol::Event(code(0))];
         for place in 1..block {
-            symbols.extend([Symbol::Event(place as u8 % 64), Symbol::Sequence]);
+            symbols.extend([Symbol::Event(code(place)), Symbol::Sequence]);
         }
         symbols.push(Symbol::Repeat(Bounds {
             lower: 0,
@@ -92,9 +96,7 @@ impl Maker {
         } else {
             block * self.random.within(2, 2_000 / block)
         };
-        let run: Vec<u8> = (0..events)
-            .map(|place| (place % block % 64) as u8)
-            .collect();
+        let run: Vec<u8> = (0..events).map(code).collect();
         let items = record_of(&procedure, &run).expect("whole blocks");
         let short = if turn % 8 == 4 { 1 } else { 0 };
         let space = self.random.bytes(2 * items.len() - short);

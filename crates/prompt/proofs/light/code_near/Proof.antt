@@ -24,7 +24,7 @@ returns : tie.Need-returns
 returns c =
     let told = c .before .before in
     let a = told .before .before .args in
-    code-of-none (a .nodes .now) (a .starts .now) (a .nulls .now) (a .plan .now) (a .n) (a .p) (a .q) _ (λ e. c .before .if1 .taken (told .kind-of .ensures ∙ e)) (c .none .ensures .0)
+    code-of-none (a .nodes .now) (a .starts .now) (a .nulls .now) (a .plan .now) (a .n) (a .p) (a .q) _ (λ e. c .before .if1 .taken (told .kind-of .ensures ∙ e)) (c .none .ensures)
 
 near-requires : tie.Need-near-requires
 near-requires c κs =
@@ -49,13 +49,13 @@ returns-2 c =
     let start = event .before .before .before in
     let a = start .args in
     code-near _ _ (start .pre .1 .0) (sym (event .before .kind-of .ensures) ∙ event .if1 .left) (told .near .ensures) (c .before .before .if2 .taken)
-    (c .before .code-of .ensures) (c .one .ensures .0)
+    (c .before .code-of .ensures) (c .one .ensures)
 
 none-requires-2 : tie.Need-none-requires-2
 none-requires-2 c κs = search needs
 
 returns-3 : tie.Need-returns-3
-returns-3 c = code-not-near _ (c .before .before .near .ensures) (c .before .if2 .left) (c .none2 .ensures .0)
+returns-3 c = code-not-near _ (c .before .before .near .ensures) (c .before .if2 .left) (c .none2 .ensures)
 
 pub code-near-spec : {M : Type 1} → statement M
 code-near-spec =

@@ -73,12 +73,20 @@ lit-requires c κs =
 returns : tie.Need-returns
 returns c = let r = c .before .before in λ f e a w. prompts-unreached f (bytes r) (counts r) e _ a (told r e w) (c .enum-told .given .1)
 
+low-requires : tie.Need-low-requires
+low-requires c κs = search needs
+
+high-requires : tie.Need-high-requires
+high-requires c κs = search needs
+
 returns-2 : tie.Need-returns-2
 returns-2 c =
-    let m = c .before .before in
+    let lit = c .before .before in
+    let m = lit .before .before in
     let r = read m in
     λ f e a w.
-    prompts-lit f (bytes r) (counts r) e _ _ (c .lit .result) a w (planned m e w) (told r e w) (node m .node .given .1) (c .lit .ok) (c .lit .ensures)
+    prompts-lit f (bytes r) (counts r) e _ _ (lit .lit .result) _ _ a w (planned m e w) (told r e w) (node m .node .given .1) (lit .lit .ensures)
+    (c .before .low .ensures) (c .high .ensures)
 
 pub light-spec : {M : Type 1} → statement M
 light-spec =
@@ -90,4 +98,6 @@ light-spec =
     returns
     fill-plan-requires
     lit-requires
+    low-requires
+    high-requires
     returns-2)

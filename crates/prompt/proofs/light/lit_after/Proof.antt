@@ -20,7 +20,7 @@ none-requires : tie.Need-none-requires Inv-loop μ-loop
 none-requires c κs = search needs
 
 loop-holds : tie.Need-loop-holds Inv-loop μ-loop
-loop-holds c = (omega arith, codes-none (c .none .ensures .0))
+loop-holds c = (omega arith, codes-none (c .none .ensures))
 
 code-near-requires : tie.Need-code-near-requires Inv-loop μ-loop
 code-near-requires c κs =
@@ -38,7 +38,7 @@ loop-less c = omega arith
 loop-again : tie.Need-loop-again Inv-loop μ-loop
 loop-again c =
     let at-loop = c .before .before .before in
-    (omega arith, codes-more _ (at-loop .loop .inv .1) (c .before .code-near .ensures) (c .union .ensures .0))
+    (omega arith, codes-more _ (at-loop .loop .inv .1) (c .before .code-near .ensures) (c .union .ensures))
 
 returns : tie.Need-returns Inv-loop μ-loop
 returns c =

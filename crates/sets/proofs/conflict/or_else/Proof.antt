@@ -6,14 +6,14 @@ use Rattle.sets.specs.Lowest.{first, second}
 use Rattle.sets.proofs.conflict.or_else.Statement.{statement}
 use Rattle.sets.proofs.conflict.or_else.Tie as tie
 
-any-requires : tie.Need-any-requires
-any-requires c κs = search needs
+is-one-requires : tie.Need-is-one-requires
+is-one-requires c κs = search needs
 
 returns : tie.Need-returns
-returns c = let some = c .before .any .ensures .0 (c .if1 .taken) in first (some .0) (some .1)
+returns c = let some = c .before .is-one .ensures .0 (c .if1 .taken) in first (some .0) (some .1)
 
 returns-2 : tie.Need-returns-2
-returns-2 c = second (λ d h. false≢true (sym (c .if1 .left) ∙ c .before .any .ensures .1 (d, h)))
+returns-2 c = second (λ d h. false≢true (sym (c .if1 .left) ∙ c .before .is-one .ensures .1 (d, h)))
 
 pub or-else-spec : {M : Type 1} → statement M
-or-else-spec = tie.close (tie.spec any-requires returns returns-2)
+or-else-spec = tie.close (tie.spec is-one-requires returns returns-2)

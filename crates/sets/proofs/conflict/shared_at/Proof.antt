@@ -8,7 +8,7 @@ shared-requires : tie.Need-shared-requires
 shared-requires c κs = search needs
 
 returns : tie.Need-returns
-returns c = let a = c .before .args in lowest-shared (a .node) (a .kind) (a .a) (a .b) (c .shared .result) (c .shared .ensures .0)
+returns c = let a = c .before .args in lowest-shared (a .node) (a .kind) (a .a) (a .b) (c .shared .result) (c .shared .ensures)
 
 pub shared-at-spec : {M : Type 1} → statement M
 shared-at-spec = tie.close (tie.spec shared-requires returns)

@@ -20,12 +20,13 @@ returns : tie.Need-returns
 returns c =
     let follows = c .before .before in
     let some = follows .before in
-    let a = some .before .before .args in
-    after-either (a .l) (a .r) (some .any .result) (follows .only-if .result) (c .before .union .result) _ (some .before .if1 .taken) (some .any .ensures)
-    (follows .only-if .ensures) (c .before .union .ensures .0) (c .union2 .ensures .0)
+    let test = some .before .before .before .before in
+    let a = test .before .before .args in
+    after-either (a .l) (a .r) (some .any .result) (follows .only-if .result) (c .before .union .result) _ (test .if1 .taken) (some .any .ensures)
+    (follows .only-if .ensures) (c .before .union .ensures) (c .union2 .ensures)
 
 returns-2 : tie.Need-returns-2
-returns-2 c = let a = c .before .args in after-right (a .l) (a .r) (c .if1 .left)
+returns-2 c = let a = c .before .before .args in after-right (a .l) (a .r) (c .if1 .left)
 
 pub after-sequence-spec : {M : Type 1} → statement M
 after-sequence-spec =

@@ -15,8 +15,8 @@ shared-at-requires c κs = search needs
 
 returns : tie.Need-returns
 returns c =
-    let a = c .before .before .before .args in
-    joins-choice (a .i) (a .l) (a .r) _ _ (c .shared-at .result) (c .before .before .union .ensures .0) (c .before .union2 .ensures .0) (c .shared-at .ensures)
+    let a = c .before .before .before .before .before .before .before .args in
+    joins-choice (a .i) (a .l) (a .r) _ _ (c .shared-at .result) (c .before .before .union .ensures) (c .before .union2 .ensures) (c .shared-at .ensures)
 
 pub choice-sets-spec : {M : Type 1} → statement M
 choice-sets-spec = tie.close (tie.spec union-requires union-requires-2 shared-at-requires returns)

@@ -4,7 +4,7 @@ use mathlib.Core.Path.{_≡_, sym, subst, _∙_}
 use Prim.Native.Nat.{ℕ}
 use native.Mathlib.Omega.{arith}
 use borrow.Author.Needs.{needs}
-use Rattle.meaning.specs.Codes.{Has}
+use Rattle.codes.specs.Codes.{Contains}
 use Rattle.procedure.specs.Entry.{codeOf, kindOf, unpacked}
 use Rattle.procedure.proofs.Nodes.{event-kept}
 use Rattle.sets.proofs.Leaves.{leaf-empty, leaf-event}
@@ -28,8 +28,8 @@ returns c =
     let k = c .before .before .before in
     let own = k .before in
     let a = own .before .args in
-    leaf-empty (unpacked (a .node)) _ _ (own .nothing .result) (c .none2 .ensures .0) (own .nothing .ensures)
-    (sym (k .kind-of .ensures) ∙ c .before .before .if1 .taken) (c .before .none .ensures .0)
+    leaf-empty (unpacked (a .node)) _ _ (own .nothing .result) (c .none2 .ensures) (own .nothing .ensures)
+    (sym (k .kind-of .ensures) ∙ c .before .before .if1 .taken) (c .before .none .ensures)
 
 -- a kind that is 0 or 1 and was found not to be 0
 event-kind : (m : tie.Else1) → kindOf (unpacked (m .before .before .before .args .node)) ≡ 1
@@ -56,8 +56,8 @@ returns-2 c =
     let code = c .before .before in
     let own = code .before .before .before in
     let a = own .before .args in
-    leaf-event (unpacked (a .node)) _ _ (own .nothing .result) (c .none3 .ensures .0) (own .nothing .ensures) (event-kind (code .before))
-    (subst (λ (d : ℕ). (e : ℕ) → Has (c .before .one .result) e ↔ (e ≡ d)) (code .code-of .ensures) (c .before .one .ensures .0))
+    leaf-event (unpacked (a .node)) _ _ (own .nothing .result) (c .none3 .ensures) (own .nothing .ensures) (event-kind (code .before))
+    (subst (λ (d : ℕ). (e : ℕ) → Contains (c .before .one .result) e ↔ (e ≡ d)) (code .code-of .ensures) (c .before .one .ensures))
 
 pub leaf-sets-spec : {M : Type 1} → statement M
 leaf-sets-spec =

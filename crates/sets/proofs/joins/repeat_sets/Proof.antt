@@ -27,10 +27,10 @@ returns c =
     let after = c .before in
     let may-follow = after .before in
     let follows = may-follow .before .before in
-    let a = follows .before .before .args in
+    let a = follows .before .before .before .before .args in
     over-body (a .i) _ _ (a .b) (follows .before .again .result) (may-follow .before .flexible .result) (follows .only-if .result) (may-follow .only-if2 .result) _
     (c .shared-at .result) (follows .before .again .ensures) (may-follow .before .flexible .ensures) (follows .only-if .ensures) (may-follow .only-if2 .ensures)
-    (after .union .ensures .0) (c .shared-at .ensures)
+    (after .union .ensures) (c .shared-at .ensures)
 
 pub repeat-sets-spec : {M : Type 1} → statement M
 repeat-sets-spec =

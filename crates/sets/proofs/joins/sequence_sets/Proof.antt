@@ -29,9 +29,9 @@ returns c =
     let seam = first .before in
     let start = seam .before in
     let begins = start .before in
-    let a = begins .before .args in
+    let a = begins .before .before .before .before .args in
     joins-sequence (a .i) (a .l) (a .r) (begins .only-if .result) _ _ (start .shared-at .result) (seam .shared-at2 .result) (c .or-else .result)
-    (begins .only-if .ensures) (start .shared-at .ensures) (seam .shared-at2 .ensures) (first .union .ensures .0) (after .after-sequence .ensures) (c .or-else .ensures)
+    (begins .only-if .ensures) (start .shared-at .ensures) (seam .shared-at2 .ensures) (first .union .ensures) (after .after-sequence .ensures) (c .or-else .ensures)
 
 pub sequence-sets-spec : {M : Type 1} → statement M
 sequence-sets-spec =

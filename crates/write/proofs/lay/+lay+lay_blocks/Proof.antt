@@ -3,13 +3,14 @@
 -- many blocks so far, and any blocks are these and more. Assumes nothing.
 use mathlib.Core.Path.{_≡_, refl, sym, subst, _∙_}
 use mathlib.Core.Bool.{Bool}
-use mathlib.Core.List.{List}
+use mathlib.Core.List.{List, []}
 use Prim.Native.Nat.{ℕ, _+_, _-_, _*_, _≤_, _<_}
 use native.Mathlib.Omega.{arith}
 use lib.ListN.{length, getD}
 use borrow.Author.Needs.{needs}
 use borrow.Fn.Kinds.{In}
 use borrow.Fn.PlainCycle.{Measures, is, falls, and}
+use Rattle.codes.specs.Codes.{Codes}
 use Rattle.meaning.specs.Expr.{Within}
 use Rattle.meaning.specs.Node.{Node, bound}
 use Rattle.meaning.specs.Sets.{First}
@@ -114,7 +115,7 @@ lay-nodes a = held (a .before .before .before .args .nodes .now)
 abbrev lay-nulls : {t : ℕ} → lay-lts.At-loop (lay-calls t) (lay-at t) lay.Post lay-Inv-loop lay-μ-loop → List Bool
 lay-nulls a = a .before .before .before .args .nulls .now
 
-abbrev lay-firsts : {t : ℕ} → lay-lts.At-loop (lay-calls t) (lay-at t) lay.Post lay-Inv-loop lay-μ-loop → List ℕ
+abbrev lay-firsts : {t : ℕ} → lay-lts.At-loop (lay-calls t) (lay-at t) lay.Post lay-Inv-loop lay-μ-loop → List Codes
 lay-firsts a = a .before .before .before .args .firsts .now
 
 abbrev lay-run : {t : ℕ} → lay-lts.At-loop (lay-calls t) (lay-at t) lay.Post lay-Inv-loop lay-μ-loop → List ℕ
@@ -140,7 +141,7 @@ whole t a r after o lays =
 
 -- the next code is in first of the part
 next-here : (t : ℕ) (c : lay-lts.Else1 (lay-calls t) (lay-at t) lay.Post lay-Inv-loop lay-μ-loop)
-    → let a = c .before .before .before in NextIn (getD (lay-firsts a) (a .loop .i) 0) (lay-run a) (a .loop .at)
+    → let a = c .before .before .before in NextIn (getD (lay-firsts a) (a .loop .i) []) (lay-run a) (a .loop .at)
 next-here t c = holds _ (c .before .next-in .result) (c .before .next-in .ensures) (c .if1 .left)
 
 -- what is known of the node that the loop is at, and of every lower one
@@ -153,7 +154,7 @@ known t a j h =
 small : (t : ℕ) (a : lay-lts.At-loop (lay-calls t) (lay-at t) lay.Post lay-Inv-loop lay-μ-loop) → a .loop .i < 512
 small t a = one-small (a .loop .i) (known t a (a .loop .i) (omega arith) .0)
 
-begins-at : (t : ℕ) (a : lay-lts.At-loop (lay-calls t) (lay-at t) lay.Post lay-Inv-loop lay-μ-loop) (j : ℕ) → j ≤ a .loop .i → SetAt First (lay-nodes a) j (getD (lay-firsts a) j 0)
+begins-at : (t : ℕ) (a : lay-lts.At-loop (lay-calls t) (lay-at t) lay.Post lay-Inv-loop lay-μ-loop) (j : ℕ) → j ≤ a .loop .i → SetAt First (lay-nodes a) j (getD (lay-firsts a) j [])
 begins-at t a j h = set-told First (lay-nodes a) (lay-firsts a) (j + 1) j (known t a j h .2) (omega arith)
 
 -- the children of a node with two
@@ -198,7 +199,7 @@ lay-returns t c =
     let r = c .to-if .result in
     whole t a r (a .loop .space)
     (advances-halts (lay-run a) (a .loop .i) (a .loop .at) (a .loop .to) _ r (a .loop .inv .0 .inside) (c .to-if .ensures))
-    (pass-by (lay-nodes a) (getD (lay-firsts a) (a .loop .i) 0) (lay-run a) (a .loop .space) (a .loop .i) (a .loop .at) (a .loop .to) (begins-at t a (a .loop .i) (omega arith)) _ r
+    (pass-by (lay-nodes a) (getD (lay-firsts a) (a .loop .i) []) (lay-run a) (a .loop .space) (a .loop .i) (a .loop .at) (a .loop .to) (begins-at t a (a .loop .i) (omega arith)) _ r
     (null-told (lay-nodes a) (lay-nulls a) (a .loop .i + 1) (a .loop .i) (known t a (a .loop .i) (omega arith) .1) (omega arith)) out (c .to-if .ensures))
 
 lay-mul-entry : (t : ℕ) → lay-lts.Need-mul-entry (lay-calls t) (lay-at t) lay.Post lay-Inv-loop lay-μ-loop
@@ -213,14 +214,14 @@ lay-kind-of-requires t c κs = search needs
 lay-put-requires : (t : ℕ) → lay-lts.Need-put-requires (lay-calls t) (lay-at t) lay.Post lay-Inv-loop lay-μ-loop
 lay-put-requires t c κs = search needs
 
-lay-add-t31 : (t : ℕ) → lay-lts.Need-add-t31 (lay-calls t) (lay-at t) lay.Post lay-Inv-loop lay-μ-loop
-lay-add-t31 t c =
+lay-add-t32 : (t : ℕ) → lay-lts.Need-add-t32 (lay-calls t) (lay-at t) lay.Post lay-Inv-loop lay-μ-loop
+lay-add-t32 t c =
     let e = found (c .before .before) in
     let a = e .before .before .before in
     omega (arith, next-here t e .0, a .loop .inv .0 .short)
 
-lay-add-t32 : (t : ℕ) → lay-lts.Need-add-t32 (lay-calls t) (lay-at t) lay.Post lay-Inv-loop lay-μ-loop
-lay-add-t32 t c =
+lay-add-t33 : (t : ℕ) → lay-lts.Need-add-t33 (lay-calls t) (lay-at t) lay.Post lay-Inv-loop lay-μ-loop
+lay-add-t33 t c =
     let a = found (c .before .before) .before .before .before in
     omega (arith, reach-over (lay-run a) (a .loop .i) (a .loop .at) (a .loop .to), a .loop .inv .0 .fits)
 
@@ -241,7 +242,7 @@ lay-returns-2 t c =
     whole t a r (p .put .last .0)
     (omega arith, omega (arith, next .0), reach-event (lay-run a) (a .loop .i) (a .loop .at) (a .loop .to) (next .0))
     (subst (LaysAt (lay-nodes a) (lay-run a) (a .loop .space) (a .loop .i) (a .loop .at) (a .loop .to) r) (sym (p .put .ensures))
-    (leaf-lays (lay-nodes a) (getD (lay-firsts a) (a .loop .i) 0) (lay-run a) (a .loop .space) (a .loop .i) (a .loop .at) (a .loop .to) (begins-at t a (a .loop .i) (omega arith))
+    (leaf-lays (lay-nodes a) (getD (lay-firsts a) (a .loop .i) []) (lay-run a) (a .loop .space) (a .loop .i) (a .loop .at) (a .loop .to) (begins-at t a (a .loop .i) (omega arith))
     (then .before .kind-of .result) (then .before .kind-of .ensures) next (then .if2 .taken)))
 
 lay-lay-blocks-requires : (t : ℕ) → lay-lts.Need-lay-blocks-requires (lay-calls t) (lay-at t) lay.Post lay-Inv-loop lay-μ-loop
@@ -296,7 +297,7 @@ lay-loop-again t c =
       a .loop .inv .2,
       a .loop .inv .3,
       a .loop .inv .4,
-      λ r after b. a .loop .inv .5 r after (choice-goes-left (lay-nodes a) (getD (lay-firsts a) (a .loop .i) 0) (lay-run a) (a .loop .space) (a .loop .i) (a .loop .at) (a .loop .to)
+      λ r after b. a .loop .inv .5 r after (choice-goes-left (lay-nodes a) (getD (lay-firsts a) (a .loop .i) []) (lay-run a) (a .loop .space) (a .loop .i) (a .loop .at) (a .loop .to)
           (begins-at t a (a .loop .i) (omega arith)) (k .kind-of .result) (k .kind-of .ensures) (next-here t e) after r (f .left-of .result) (f .left-of .ensures) (n .before .before .if4 .taken)
           _ (begins-at t a (f .left-of .result) (omega (arith, left-below t f))) here b),
     )
@@ -321,7 +322,7 @@ lay-loop-again-2 t c =
       a .loop .inv .2,
       a .loop .inv .3,
       a .loop .inv .4,
-      λ r after b. a .loop .inv .5 r after (choice-goes-right (lay-nodes a) (getD (lay-firsts a) (a .loop .i) 0) (lay-run a) (a .loop .space) (a .loop .i) (a .loop .at) (a .loop .to)
+      λ r after b. a .loop .inv .5 r after (choice-goes-right (lay-nodes a) (getD (lay-firsts a) (a .loop .i) []) (lay-run a) (a .loop .space) (a .loop .i) (a .loop .at) (a .loop .to)
           (begins-at t a (a .loop .i) (omega arith)) (k .kind-of .result) (k .kind-of .ensures) (next-here t e) after r (f .left-of .result) (f .left-of .ensures) (n .before .before .if4 .taken)
           _ (begins-at t a (f .left-of .result) (omega (arith, left-below t f))) out b),
     )
@@ -407,7 +408,7 @@ block-nodes a = held (a .before .before .before .args .nodes .now)
 abbrev block-nulls : {t : ℕ} → lay-blocks-lts.At-loop (block-calls t) (lay-blocks-at t) lay-blocks.Post lay-blocks-Inv-loop lay-blocks-μ-loop → List Bool
 block-nulls a = a .before .before .before .args .nulls .now
 
-abbrev block-firsts : {t : ℕ} → lay-blocks-lts.At-loop (block-calls t) (lay-blocks-at t) lay-blocks.Post lay-blocks-Inv-loop lay-blocks-μ-loop → List ℕ
+abbrev block-firsts : {t : ℕ} → lay-blocks-lts.At-loop (block-calls t) (lay-blocks-at t) lay-blocks.Post lay-blocks-Inv-loop lay-blocks-μ-loop → List Codes
 block-firsts a = a .before .before .before .args .firsts .now
 
 abbrev block-run : {t : ℕ} → lay-blocks-lts.At-loop (block-calls t) (lay-blocks-at t) lay-blocks.Post lay-blocks-Inv-loop lay-blocks-μ-loop → List ℕ
@@ -433,14 +434,14 @@ body t a =
     let is-repeat = b .pre .1 .1 .1 .1 .1 in
     last-order (block-nodes a) (b .args .i) (kindOf (block-nodes a (b .args .i))) refl (omega arith) (one-ordered (b .args .i) (b .pre .1 .0)) .1
 
-begins-here : (t : ℕ) (a : lay-blocks-lts.At-loop (block-calls t) (lay-blocks-at t) lay-blocks.Post lay-blocks-Inv-loop lay-blocks-μ-loop) → let i = a .before .before .before .args .i in SetAt First (block-nodes a) i (getD (block-firsts a) i 0)
+begins-here : (t : ℕ) (a : lay-blocks-lts.At-loop (block-calls t) (lay-blocks-at t) lay-blocks.Post lay-blocks-Inv-loop lay-blocks-μ-loop) → let i = a .before .before .before .args .i in SetAt First (block-nodes a) i (getD (block-firsts a) i [])
 begins-here t a = let b = a .before .before .before in set-told First (block-nodes a) (block-firsts a) (b .args .i + 1) (b .args .i) (b .pre .1 .1 .1 .0) (omega arith)
 
 -- another block begins
 begins : (t : ℕ) (c : lay-blocks-lts.Else1 (block-calls t) (lay-blocks-at t) lay-blocks.Post lay-blocks-Inv-loop lay-blocks-μ-loop)
     → let a = looped c in
     let i = a .before .before .before .args .i in
-    NextIn (getD (block-firsts a) i 0) (block-run a) (a .loop .at) × Within (a .loop .k + 1) (bound (upperOf (block-nodes a i)))
+    NextIn (getD (block-firsts a) i []) (block-run a) (a .loop .at) × Within (a .loop .k + 1) (bound (upperOf (block-nodes a i)))
 begins t c = holds _ (c .before .another .result) (c .before .another .ensures) (c .if1 .left)
 
 -- its body has room after the opening
@@ -550,7 +551,7 @@ lay-blocks-returns t c =
     let ends = halts-decided _ (m .may-have .result) (a .loop .at) (a .loop .to) r (m .may-have .ensures) (c .to-if .ensures) in (
       advances-further (block-run a) i (b .args .event) (b .args .item) (a .loop .at) (a .loop .to) r (a .loop .inv .1) (a .loop .inv .3)
           (advances-halts (block-run a) i (a .loop .at) (a .loop .to) _ r (a .loop .inv .0 .inside) ends),
-      dwell-stops (block-nodes a) (getD (block-firsts a) (b .args .i) 0) (block-run a) (b .args .space .now) (a .loop .space) i (b .args .event) (b .args .item) (a .loop .k) (a .loop .at)
+      dwell-stops (block-nodes a) (getD (block-firsts a) (b .args .i) []) (block-run a) (b .args .space .now) (a .loop .space) i (b .args .event) (b .args .item) (a .loop .k) (a .loop .at)
           (a .loop .to) (begins-here t a) (a .loop .inv .5) (kindOf (block-nodes a i)) refl (b .pre .1 .1 .1 .1 .1) _ r
           (null-told (block-nodes a) (block-nulls a) (i + 1) (i - 1) (b .pre .1 .1 .0) (omega arith)) out ends,
     )
@@ -603,7 +604,7 @@ lay-blocks-returns-2 t c =
     let stuck = subst (λ (r : Laid). LaysAt (block-nodes a) (block-run a) (putAt (a .loop .space) (a .loop .to) (i + 4096)) (i - 1) (a .loop .at) (a .loop .to + 1) r last)
     (c .enum-told .given .1) (laid t d) in (
       tt,
-      unlaid-body (block-nodes a) (getD (block-firsts a) (b .args .i) 0) (block-run a) (b .args .space .now) (a .loop .space) (b .args .i) (b .args .event) (b .args .item) (a .loop .k)
+      unlaid-body (block-nodes a) (getD (block-firsts a) (b .args .i) []) (block-run a) (b .args .space .now) (a .loop .space) (b .args .i) (b .args .event) (b .args .item) (a .loop .k)
           (a .loop .at) (a .loop .to) (begins-here t a) (a .loop .inv .5) (kindOf (block-nodes a i)) refl (b .pre .1 .1 .1 .1 .1) (begins t o .0) (begins t o .1) last stuck,
     )
 
@@ -621,7 +622,7 @@ lay-blocks-returns-3 t c =
     let a = looped o in
     let b = a .before .before .before in (
       tt,
-      unlaid-event (block-nodes a) (getD (block-firsts a) (b .args .i) 0) (block-run a) (b .args .space .now) (a .loop .space) (b .args .i) (b .args .event) (b .args .item) (a .loop .k)
+      unlaid-event (block-nodes a) (getD (block-firsts a) (b .args .i) []) (block-run a) (b .args .space .now) (a .loop .space) (b .args .i) (b .args .event) (b .args .item) (a .loop .k)
           (a .loop .at) (a .loop .to) (begins-here t a) (a .loop .inv .5) (kindOf (block-nodes a (b .args .i))) refl (b .pre .1 .1 .1 .1 .1) (begins t o .0) (begins t o .1) (d .lay .last .1 .1 .1 .1 .0)
           (x .a .given .0 .0) (x .a .given .0 .1 .0) (c .if2 .taken) (a .loop .inv .0 .inside) (went t x .0),
     )
@@ -673,7 +674,7 @@ lay-blocks-loop-again t c =
       omega (arith, a .loop .inv .3),
       q .put2 .kept .0 ∙ d .lay .kept .1 .1 .1 .1 .0 ∙ p .put .kept .0 ∙ a .loop .inv .4,
       subst (DwellsAt (block-nodes a) (block-run a) (b .args .space .now) i (b .args .event) (b .args .item) (a .loop .k + 1) u (v + 1)) (sym (q .put2 .ensures))
-          (dwell-goes (block-nodes a) (getD (block-firsts a) (b .args .i) 0) (block-run a) (b .args .space .now) (a .loop .space) (b .args .i) (b .args .event) (b .args .item) (a .loop .k)
+          (dwell-goes (block-nodes a) (getD (block-firsts a) (b .args .i) []) (block-run a) (b .args .space .now) (a .loop .space) (b .args .i) (b .args .event) (b .args .item) (a .loop .k)
           (a .loop .at) (a .loop .to) (begins-here t a) (a .loop .inv .5) (begins t o .0) (begins t o .1) u v last more (on .1) (went t x .0)),
     )
 
@@ -695,8 +696,8 @@ pub +lay+lay-blocks-spec : {M : Type 1} → statement M
     (lay-element-copy-out-entry t)
     (lay-kind-of-requires t)
     (lay-put-requires t)
-    (lay-add-t31 t)
     (lay-add-t32 t)
+    (lay-add-t33 t)
     (lay-same-length-2 t)
     (lay-returns-2 t)
     (lay-lay-blocks-requires t)

@@ -6,16 +6,16 @@ use mathlib.Core.List.{List}
 use Prim.Native.Nat.{ℕ, _<_}
 use borrow.Author.Needs.{needs}
 use lib.ListN.{length, getD}
-use Rattle.meaning.specs.Codes.{Has}
+use Rattle.codes.specs.Codes.{Codes, Contains}
 use Rattle.procedure.specs.Tests.{Decides}
 use Rattle.write.specs.Lay.{NextIn}
 use Rattle.write.proofs.lay.next_in.Statement.{statement}
 use Rattle.write.proofs.lay.next_in.Tie as tie
 
 -- the test of the code that was read
-tested : (codes : ℕ) (run : List ℕ) (at c : ℕ) (b : Bool) → at < length run → c ≡ getD run at 0 → (b ≡ true) ↔ Has codes c → Decides (NextIn codes run at) b
-tested codes run at c true l e t = (l, subst (Has codes) e (t .0 refl))
-tested codes run at c false l e t = λ n. false≢true (t .1 (subst (Has codes) (sym e) (n .1)))
+tested : (codes : Codes) (run : List ℕ) (at c : ℕ) (b : Bool) → at < length run → c ≡ getD run at 0 → (b ≡ true) ↔ Contains codes c → Decides (NextIn codes run at) b
+tested codes run at c true l e t = (l, subst (Contains codes) e (t .0 refl))
+tested codes run at c false l e t = λ n. false≢true (t .1 (subst (Contains codes) (sym e) (n .1)))
 
 shared-slice-read-has : tie.Need-shared-slice-read-wide
 shared-slice-read-has c = search needs

@@ -1,0 +1,62 @@
+-- Files that use only codes 0 to 63 are answered as when there were no others: the table of kinds is the one to 63, and the high word of
+-- the prompt is 0. Assumes nothing.
+use mathlib.Core.Path.{_≡_, refl, ap, _∙_}
+use mathlib.Core.Logic.{_↔_}
+use mathlib.Core.List.{List, []}
+use Prim.Native.Nat.{ℕ, zero, suc, _+_, _≤_}
+use native.Mathlib.Omega.{arith}
+use lib.Pow.{pow-pos}
+use Rattle.meaning.specs.declared.PromptAnswer.{PromptAnswer}
+use Rattle.meaning.specs.declared.PromptAnswer.the-variants as prompt
+use Rattle.meaning.specs.Bytes.{twoAt}
+use Rattle.meaning.specs.Codes.{Has, mostCode}
+use Rattle.meaning.specs.Expr.{Expr, event, Part, Bounded}
+use Rattle.meaning.specs.Node.{node, InTable, InTableTo, empty-line, event-line, choice-line, sequence-line, repeat-line}
+use Rattle.meaning.specs.File.{Holds}
+use Rattle.meaning.specs.Numbers.{PromptNumbers, promptNumbers}
+use Rattle.meaning.specs.Promises.{Lights, Prompts, PromptPromise}
+use Rattle.meaning.specs.Sets.{FirstWorded}
+use Rattle.meaning.proofs.file.EventNodes.{word-code}
+use Rattle.meaning.proofs.file.Files.{holds-bounded}
+use Rattle.meaning.proofs.general.CodeSets.{high-has, nothing-has, same-codes}
+use Rattle.meaning.proofs.places.Loosened.{lit-part}
+
+-- ---- the table of kinds
+
+-- a record in a table is in every other that has its code
+table-with : {most k c x y z : ℕ} (other : ℕ) → c ≤ other → InTableTo most (node k c x y z) → InTableTo other (node k c x y z)
+table-with other l empty-line = empty-line
+table-with other l (event-line c h) = event-line c l
+table-with other l (choice-line a b) = choice-line a b
+table-with other l (sequence-line a b) = sequence-line a b
+table-with other l (repeat-line b lower upper h u k) = repeat-line b lower upper h u k
+
+-- so for a record with a code up to 63 the table is the one to 63
+pub table-to-63 : (k c x y z : ℕ) → c ≤ 63 → InTable (node k c x y z) ↔ InTableTo 63 (node k c x y z)
+table-to-63 k c x y z l = (table-with 63 l, table-with mostCode (omega arith))
+
+-- ---- the prompt
+
+-- the file's event codes are at most 63
+abbrev LowCodes : List ℕ → Type 0
+LowCodes f = (e : Expr) → Holds f e → (q c : ℕ) → Part 0 e q (event c) → c ≤ 63
+
+-- a code that is lit is that of an event node
+lit-code : (e : Expr) → Bounded e → (node c : ℕ) → Lights e node c → (q : ℕ) × Part 0 e q (event c)
+unfolding FirstWorded
+lit-code e h zero c f = word-code e h [] (f .0) c (f .1)
+lit-code e h (suc i) c f = lit-part e h i c f
+
+high-zero : (f state : List ℕ) → LowCodes f → (a : PromptAnswer) → Prompts f state a → promptNumbers a .high ≡ 0
+high-zero f state few a (Prompts.refused r p) = refl
+high-zero f state few a (Prompts.unreached e p n) = refl
+high-zero f state few a (Prompts.lit e u low high p n l k h) = same-codes 64 high 0 k (pow-pos 64) (λ c m. (λ w. absurd (none c w), λ w. absurd (nothing-has c w)))
+  where
+    none : (c : ℕ) → ¬ Has high c
+    none c w =
+        let q = lit-code e (holds-bounded (p .holds)) (twoAt state 0) (64 + c) (h (64 + c) .0 (high-has low high l c .1 w)) in
+        omega (arith, few e (p .holds) (q .0) (64 + c) (q .1))
+
+pub prompt-high-zero : (f state : List ℕ) → LowCodes f → (out : PromptNumbers) → PromptPromise f state out → out .high ≡ 0
+unfolding PromptPromise
+prompt-high-zero f state few out p = ap (λ (n : PromptNumbers). n .high) (p .2) ∙ high-zero f state few (p .0) (p .1)
