@@ -31,12 +31,13 @@ none-contains c h = nothing-has c h
 
 -- ---- a code alone
 
-low-power : (r : ℕ) → inWords r 0 ≡ r
+-- a low word alone is the number itself
+low-alone : (r : ℕ) → inWords r 0 ≡ r
 unfolding inWords
-low-power r = omega arith
+low-alone r = omega arith
 
 pub low-only : (r c : ℕ) → r ≡ only c → (d : ℕ) → Contains (r ∷ 0 ∷ []) d ↔ (d ≡ c)
-low-only r c e = set-has r 0 (λ d. d ≡ c) (low-power r ∙ e) (only-has c)
+low-only r c e = set-has r 0 (λ d. d ≡ c) (low-alone r ∙ e) (only-has c)
 
 high-power : (c : ℕ) → inWords 0 (only c) ≡ only (c + 64)
 unfolding inWords only
