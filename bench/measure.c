@@ -31,7 +31,7 @@ static uint8_t states[MOST_REPEATS][SEQ_STATE_BYTES]; /* each call has its own s
 static uint8_t space[SPACE_BYTES];
 static _Alignas(64) uint8_t painted[STACK_BYTES];
 
-static uint32_t answer, node, kind, code, verdict, yes;
+static uint32_t answer, node, kind, code, count, verdict, yes;
 static uint64_t taken, length, low, high;
 
 static void fail(const char *why)
@@ -43,7 +43,7 @@ static void fail(const char *why)
 static void judge(uint8_t *state)
 {
     (void)state;
-    answer = seq_judge(file.bytes, file.length, &node, &kind, &code);
+    answer = seq_judge(file.bytes, file.length, &node, &kind, &code, &low, &high, &count);
 }
 
 static void follow(uint8_t *state)
@@ -83,7 +83,8 @@ static void prompt(uint8_t *state)
 
 static void print_judge(void)
 {
-    printf("%u %u %u %u\n", answer, node, kind, code);
+    printf("%u %u %u %u %llu %llu %u\n", answer, node, kind, code, (unsigned long long)low, (unsigned long long)high,
+           count);
 }
 
 static void print_follow(void)

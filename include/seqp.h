@@ -19,7 +19,7 @@
  *
  * What every call gives
  *   - The answer, a number of the table below, as the function's value.
- *   - Every result, also on a refusal: it is 0 there, but for the node, kind and code of seq_judge.
+ *   - Every result, also on a refusal: it is 0 there, but where seq_judge names a node or a conflict.
  *   - On a refusal (an answer other than 0) a lent state and a record's space stay as they were.
  *
  * A call allocates nothing, keeps no pointer and has no memory between calls: calls may run on several
@@ -39,11 +39,12 @@ extern "C" {
 #endif
 
 /*
- * The version of this header and of the library that it was installed with, also as text: "0.3.0". Before version 1
- * the second number may change a call, as 0.3 did seq_prompt: what calls the library is then compiled anew.
+ * The version of this header and of the library that it was installed with, also as text: "0.4.0". Before version 1
+ * the second number may change a call, as 0.3 did seq_prompt and 0.4 seq_judge: what calls the library is then compiled
+ * anew.
  */
 #define SEQ_VERSION_MAJOR 0
-#define SEQ_VERSION_MINOR 3
+#define SEQ_VERSION_MINOR 4
 #define SEQ_VERSION_PATCH 0
 #define SEQ_TEXT_OF(number) #number
 #define SEQ_TEXT(number) SEQ_TEXT_OF(number)
@@ -166,11 +167,17 @@ enum seq_conflict {
 
 /*
  * Judges a procedure file.
- * Answers 0 to 7. *node is the node reported with 4 to 7, else 0; *kind (enum seq_conflict) and *code are
- * those of the conflict with 7, else 0. With answer 0 no call refuses the file.
+ * Answers 0 to 7. With answer 0 no call refuses the file. *node is the node reported with 4 to 7, else 0. The other
+ * results are the conflict's with 7, else 0:
+ *   *kind          an enum seq_conflict;
+ *   *code          the lowest of the codes that it shares;
+ *   *low, *high    the set of all of them: bit c of *low is code c, and from 64 on bit c - 64 of *high. What the node
+ *                  shares in another kind is not in it;
+ *   *count         how many they are.
  */
 SEQ_LOOK_AT
-uint32_t seq_judge(const uint8_t *file, size_t file_len, uint32_t *node, uint32_t *kind, uint32_t *code);
+uint32_t seq_judge(const uint8_t *file, size_t file_len, uint32_t *node, uint32_t *kind, uint32_t *code,
+                   uint64_t *low, uint64_t *high, uint32_t *count);
 
 /*
  * Follows a run: takes the events up to the first that does not continue the run that reached the state.

@@ -28,6 +28,12 @@ static uint64_t *result_64(struct lent *lent, enum side side)
     return (uint64_t *)(void *)lent->bytes;
 }
 
+static void expect_codes(struct tally *t, uint64_t low, uint64_t high, struct codes wanted)
+{
+    expect_number(t, "the low word", low, wanted.low);
+    expect_number(t, "the high word", high, wanted.high);
+}
+
 static void take_back_all(struct lent *lent, int count)
 {
     for (int i = 0; i < count; i++)
@@ -36,17 +42,21 @@ static void take_back_all(struct lent *lent, int count)
 
 static void judge_once(struct tally *t, struct slice file, struct judgement wanted, enum side side)
 {
-    struct lent lent[4];
+    struct lent lent[7];
     lent[0] = lend_slice(file, side);
     uint32_t *node = result_32(&lent[1], side), *kind = result_32(&lent[2], side), *code = result_32(&lent[3], side);
+    uint64_t *low = result_64(&lent[4], side), *high = result_64(&lent[5], side);
+    uint32_t *count = result_32(&lent[6], side);
 
-    uint32_t answer = seq_judge(lent[0].bytes, lent[0].length, node, kind, code);
+    uint32_t answer = seq_judge(lent[0].bytes, lent[0].length, node, kind, code, low, high, count);
 
     expect_number(t, "the answer", answer, wanted.answer);
     expect_number(t, "the node", *node, wanted.node);
     expect_number(t, "the kind", *kind, wanted.kind);
     expect_number(t, "the code", *code, wanted.code);
-    take_back_all(lent, 4);
+    expect_codes(t, *low, *high, wanted.shared);
+    expect_number(t, "the count", *count, wanted.count);
+    take_back_all(lent, 7);
 }
 
 void expect_judge(struct tally *t, const char *name, struct slice file, struct judgement wanted)
@@ -160,8 +170,7 @@ static void prompt_once(struct tally *t, struct slice file, struct slice state, 
 
     expect_number(t, "the answer",
                   seq_prompt(lent[0].bytes, lent[0].length, lent[1].bytes, lent[1].length, low, high), answer);
-    expect_number(t, "the low word", *low, lit.low);
-    expect_number(t, "the high word", *high, lit.high);
+    expect_codes(t, *low, *high, lit);
     take_back_all(lent, 4);
 }
 

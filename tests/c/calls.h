@@ -10,6 +10,7 @@
 #include <stddef.h>
 #include <stdint.h>
 
+#include "codes.h"
 #include "seqp.h"
 #include "tally.h"
 
@@ -18,19 +19,17 @@ struct slice {
     size_t length;
 };
 
+/* All but the answer and the node is 0 where the answer is not 7. */
 struct judgement {
     uint32_t answer, node, kind, code;
+    struct codes shared;
+    uint32_t count;
 };
 
 struct followed {
     uint32_t answer;
     uint64_t taken;
     uint32_t verdict;
-};
-
-/* A set of codes: 0 to 63 as the bits of the first word, 64 to 127 as those of the second. */
-struct codes {
-    uint64_t low, high;
 };
 
 void expect_judge(struct tally *t, const char *name, struct slice file, struct judgement wanted);

@@ -56,7 +56,7 @@ static void try_chain(struct tally *t, const char *name, int to_the_right, size_
     stand_behind(to_the_right, CHAIN_EVENTS - 2, before);
     stand_behind(to_the_right, CHAIN_EVENTS - 1, after);
 
-    expect_judge(t, name, file, (struct judgement){0, 0, 0, 0});
+    expect_judge(t, name, file, (struct judgement){.answer = SEQ_DONE});
     expect_follow(t, name, file, (struct slice){start, sizeof start}, (struct slice){run, sizeof run},
                   (struct followed){SEQ_DONE, sizeof run, SEQ_COMPLETE}, after);
     expect_write(t, name, file, (struct slice){run, sizeof run}, sizeof record, SEQ_DONE,

@@ -11,7 +11,7 @@
 #include "sections.h"
 #include "state.h"
 
-enum { MOST_NOTATION = 1024, CODES = SEQ_MOST_CODE + 1, WORD_CODES = 64 };
+enum { MOST_NOTATION = 1024, CODES = SEQ_MOST_CODE + 1 };
 
 /* The nodes of (e0|e1|..|e127){0,}: a choice stands behind each event but the first, and the repeat behind all. */
 enum { LAST_EVENT = 2 * SEQ_MOST_CODE - 1, REPEAT = 2 * CODES - 1 };
@@ -20,11 +20,8 @@ static const uint8_t start[SEQ_STATE_BYTES];
 
 static struct procedure any_code(void)
 {
-    char notation[MOST_NOTATION] = "(#0";
-    size_t at = strlen(notation);
-    for (int code = 1; code < CODES; code++)
-        at += (size_t)sprintf(notation + at, "+#%d", code);
-    strcpy(notation + at, "){0,}");
+    char notation[MOST_NOTATION];
+    strcpy(put_choice(notation, (struct series){0, 1, CODES}), "{0,}");
     return procedure_of(notation);
 }
 
@@ -46,7 +43,7 @@ static void take_all_codes(struct tally *t)
     run[CODES] = CODES;
     state_bytes(&last, after);
 
-    expect_judge(t, "all codes", file, (struct judgement){SEQ_DONE, 0, 0, 0});
+    expect_judge(t, "all codes", file, (struct judgement){.answer = SEQ_DONE});
     expect_prompt(t, "all codes", file, from_start, SEQ_DONE, all);
     expect_prompt(t, "all codes, behind the last", file, then, SEQ_DONE, all);
     expect_follow(t, "all codes", file, from_start, (struct slice){run, CODES},
@@ -86,8 +83,8 @@ static void judge_two_codes(struct tally *t, unsigned code, unsigned other)
     char notation[20];
     sprintf(notation, "#%u+#%u", code, other);
     const struct procedure p = procedure_of(notation);
-    const struct judgement malformed = {SEQ_NODE, 1, 0, 0}, admitted = {SEQ_DONE, 0, 0, 0},
-                           conflict = {SEQ_CONFLICT, 2, SEQ_CONFLICT_CHOICE, code};
+    const struct judgement malformed = {.answer = SEQ_NODE, .node = 1}, admitted = {.answer = SEQ_DONE},
+                           conflict = {SEQ_CONFLICT, 2, SEQ_CONFLICT_CHOICE, code, only_code(code), 1};
     expect_judge(t, notation, (struct slice){p.bytes, p.length},
                  other > SEQ_MOST_CODE ? malformed : other == code ? conflict : admitted);
 }
@@ -97,9 +94,8 @@ static void prompt_one_code(struct tally *t, unsigned code)
     char notation[20];
     sprintf(notation, "#%u", code);
     const struct procedure p = procedure_of(notation);
-    const uint64_t bit = UINT64_C(1) << code % WORD_CODES;
     expect_prompt(t, notation, (struct slice){p.bytes, p.length}, (struct slice){start, sizeof start}, SEQ_DONE,
-                  code < WORD_CODES ? (struct codes){bit, 0} : (struct codes){0, bit});
+                  only_code(code));
 }
 
 void every_code(struct tally *t)

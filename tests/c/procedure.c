@@ -132,6 +132,14 @@ struct procedure procedure_of(const char *notation)
     return made;
 }
 
+char *put_choice(char *at, struct series codes)
+{
+    for (int i = 0; i < codes.count; i++)
+        at += sprintf(at, "%c#%d", i == 0 ? '(' : '+', codes.first + codes.step * i);
+    strcpy(at, ")");
+    return at + 1;
+}
+
 struct procedure nested_of(const char *bounds, int repeats)
 {
     char notation[400] = "a";

@@ -20,6 +20,14 @@ struct procedure {
 
 struct procedure procedure_of(const char *notation);
 
+/* So many codes, from the first on in equal steps. */
+struct series {
+    int first, step, count;
+};
+
+/* Writes the choice of these events in that notation, in brackets, and gives the place behind it. */
+char *put_choice(char *at, struct series codes);
+
 /* a with so many repeats around it, all with the same bounds. */
 struct procedure nested_of(const char *bounds, int repeats);
 

@@ -8,10 +8,6 @@
 
 enum { A = 1, B = 2, C = 4 };
 
-/* The bit of a code in its word. */
-#define LOW(code) (UINT64_C(1) << (code))
-#define HIGH(code) (UINT64_C(1) << ((code) - 64))
-
 static const struct prompt_case {
     const char *procedure;
     struct state state;

@@ -34,7 +34,7 @@ static void refuse_lengths(struct tally *t)
         char name[60];
         snprintf(name, sizeof name, "%zu bytes", lengths[i]);
         p.length = lengths[i];
-        expect_refused(t, name, &p, (struct judgement){1, 0, 0, 0});
+        expect_refused(t, name, &p, (struct judgement){.answer = 1});
     }
 }
 
@@ -66,7 +66,7 @@ static void refuse_trailers(struct tally *t)
     for (int i = 0; i < TRAILERS; i++) {
         struct procedure p = procedure_of("a{0,1}");
         put_number(trailer_of(&p, trailers[i].at), trailers[i].number);
-        expect_refused(t, trailers[i].name, &p, (struct judgement){trailers[i].answer, 0, 0, 0});
+        expect_refused(t, trailers[i].name, &p, (struct judgement){.answer = trailers[i].answer});
     }
 }
 
@@ -76,15 +76,15 @@ static void refuse_nodes_beyond_the_file(struct tally *t)
     struct procedure p = procedure_of("a");
     put_number(trailer_of(&p, 4), SEQ_MOST_NODES);
     put_number(trailer_of(&p, 8), TRAILER_BYTES + NODE_BYTES * SEQ_MOST_NODES);
-    expect_refused(t, "512 nodes in 20 bytes", &p, (struct judgement){3, 0, 0, 0});
+    expect_refused(t, "512 nodes in 20 bytes", &p, (struct judgement){.answer = 3});
     put_number(trailer_of(&p, 2), 0);
-    expect_refused(t, "512 nodes in 20 bytes, letters wrong", &p, (struct judgement){2, 0, 0, 0});
+    expect_refused(t, "512 nodes in 20 bytes, letters wrong", &p, (struct judgement){.answer = 2});
 }
 
 static void refuse_text(struct tally *t)
 {
     struct procedure plain = procedure_of("a"), made = with_text(&plain, 4097);
-    expect_refused(t, "4,097 bytes of text", &made, (struct judgement){3, 0, 0, 0});
+    expect_refused(t, "4,097 bytes of text", &made, (struct judgement){.answer = 3});
 }
 
 /* 4 and 5: one field of a node. Field 0 is the kind and 256 times the code. */
@@ -137,7 +137,7 @@ static void refuse_nodes(struct tally *t)
         snprintf(name, sizeof name, "%s with field %u of node %u %u", nodes[i].procedure, nodes[i].field,
                  nodes[i].node, nodes[i].number);
         put_number(field_of(&p, nodes[i].node, nodes[i].field), nodes[i].number);
-        expect_refused(t, name, &p, (struct judgement){nodes[i].answer, nodes[i].reported, 0, 0});
+        expect_refused(t, name, &p, (struct judgement){.answer = nodes[i].answer, .node = nodes[i].reported});
     }
 }
 
@@ -146,33 +146,33 @@ static void refuse_several(struct tally *t)
     struct procedure p = procedure_of("abc");
     put_number(field_of(&p, 0, 0), 2);
     put_number(field_of(&p, 3, 0), 9);
-    expect_refused(t, "a choice at node 0 and kind 9 at node 3", &p, (struct judgement){4, 3, 0, 0});
+    expect_refused(t, "a choice at node 0 and kind 9 at node 3", &p, (struct judgement){.answer = 4, .node = 3});
     put_number(field_of(&p, 2, 3), 1);
-    expect_refused(t, "a bad record at nodes 2 and 3", &p, (struct judgement){4, 2, 0, 0});
+    expect_refused(t, "a bad record at nodes 2 and 3", &p, (struct judgement){.answer = 4, .node = 2});
 
     p = procedure_of("ab");
     put_number(field_of(&p, 2, 0), 1);
     put_number(field_of(&p, 2, 1), 0);
     put_number(field_of(&p, 2, 2), 0);
-    expect_refused(t, "three events and nothing above them", &p, (struct judgement){5, 2, 0, 0});
+    expect_refused(t, "three events and nothing above them", &p, (struct judgement){.answer = 5, .node = 2});
 
     p = procedure_of("a{0,1}");
     memset(p.bytes, 0, NODE_BYTES);
     put_number(field_of(&p, 0, 0), 4);
     put_number(field_of(&p, 0, 1), 65535);
     put_number(field_of(&p, 0, 3), 1);
-    expect_refused(t, "a repeat at node 0 with body 65,535", &p, (struct judgement){5, 0, 0, 0});
+    expect_refused(t, "a repeat at node 0 with body 65,535", &p, (struct judgement){.answer = 5, .node = 0});
 }
 
 /* 6 stands before 7. */
 static void refuse_repeats(struct tally *t)
 {
     struct procedure p = nested_of("{0,1}", SEQ_MOST_REPEATS + 1);
-    expect_refused(t, "33 repeats", &p, (struct judgement){6, 33, 0, 0});
+    expect_refused(t, "33 repeats", &p, (struct judgement){.answer = 6, .node = 33});
     p = nested_of("{0,2}", SEQ_MOST_REPEATS + 1);
-    expect_refused(t, "33 repeats and a conflict", &p, (struct judgement){6, 33, 0, 0});
+    expect_refused(t, "33 repeats and a conflict", &p, (struct judgement){.answer = 6, .node = 33});
     p = nested_of("{0,2}", SEQ_MOST_REPEATS);
-    expect_refused(t, "32 repeats and a conflict", &p, (struct judgement){7, 2, 4, 0});
+    expect_refused(t, "32 repeats and a conflict", &p, (struct judgement){7, 2, 4, 0, {LOW(0), 0}, 1});
 }
 
 static void refuse_conflicts(struct tally *t)
@@ -181,12 +181,12 @@ static void refuse_conflicts(struct tally *t)
         const char *procedure;
         struct judgement wanted;
     } conflicts[] = {
-        {"a+ab", {7, 4, 1, 0}},
-        {"a{0,2}a", {7, 3, 2, 0}},
-        {"a{2,3}a", {7, 3, 3, 0}},
-        {"(a{1,2}){3,4}", {7, 2, 4, 0}},
-        {"#64+#64#127", {7, 4, 1, 64}},
-        {"#127{2,3}#127", {7, 3, 3, 127}},
+        {"a+ab", {7, 4, 1, 0, {LOW(0), 0}, 1}},
+        {"a{0,2}a", {7, 3, 2, 0, {LOW(0), 0}, 1}},
+        {"a{2,3}a", {7, 3, 3, 0, {LOW(0), 0}, 1}},
+        {"(a{1,2}){3,4}", {7, 2, 4, 0, {LOW(0), 0}, 1}},
+        {"#64+#64#127", {7, 4, 1, 64, {0, HIGH(64)}, 1}},
+        {"#127{2,3}#127", {7, 3, 3, 127, {0, HIGH(127)}, 1}},
     };
     for (size_t i = 0; i < sizeof conflicts / sizeof conflicts[0]; i++) {
         struct procedure p = procedure_of(conflicts[i].procedure);

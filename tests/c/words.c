@@ -5,10 +5,11 @@
 #include <stdio.h>
 #include <string.h>
 
+#include "codes.h"
 #include "sections.h"
 #include "seqp.h"
 
-enum { ANSWERS = SEQ_SPACE + 1, WORD_CODES = 64 };
+enum { ANSWERS = SEQ_SPACE + 1 };
 
 static void expect_other_words(struct tally *t, uint32_t answer, uint32_t other)
 {
@@ -28,11 +29,10 @@ static void expect_no_answer(struct tally *t, uint32_t number)
 /* A set of one code has that one and no other. */
 static void expect_one_code(struct tally *t, uint32_t code)
 {
-    const uint64_t bit = UINT64_C(1) << code % WORD_CODES;
-    const int is_low = code < WORD_CODES;
+    const struct codes one = only_code(code);
     begin_case(t, "the set of code %u", (unsigned)code);
     for (uint32_t other = 0; other <= UINT8_MAX; other++)
-        expect_number(t, "had", (unsigned)seq_has_code(is_low ? bit : 0, is_low ? 0 : bit, other), other == code);
+        expect_number(t, "had", (unsigned)seq_has_code(one.low, one.high, other), other == code);
     end_case(t);
 }
 

@@ -21,12 +21,26 @@ fn answer_judge(file: &mut [u8]) -> bool {
     let mut node = JUNK;
     let mut kind = JUNK;
     let mut code = JUNK;
-    let answer = seqp::seq_judge(&file[..length], &mut node, &mut kind, &mut code);
+    let mut low = WIDE_JUNK;
+    let mut high = WIDE_JUNK;
+    let mut count = JUNK;
+    let answer = seqp::seq_judge(
+        &file[..length],
+        &mut node,
+        &mut kind,
+        &mut code,
+        &mut low,
+        &mut high,
+        &mut count,
+    );
     io::write_all(STDOUT_FILENO, b"J");
     print_number(answer as u64);
     print_number(node as u64);
     print_number(kind as u64);
     print_number(code as u64);
+    print_number(low);
+    print_number(high);
+    print_number(count as u64);
     print_end()
 }
 

@@ -10,9 +10,11 @@ use borrow.Author.Tests.{lt-ltb, ltb-true}
 use lib.Bits.{and-block, or-block}
 use lib.Dec.{ltb}
 use lib.Pow.{pow-add}
-use Rattle.meaning.specs.Codes.{Has, inWords}
+use Rattle.meaning.specs.Codes.{Has, SetInWords, inWords}
+use Rattle.meaning.specs.Properties.{CountBelow}
 use Rattle.meaning.proofs.general.CodeSets.{has-below, high-has, low-has, nothing-has}
-use Rattle.codes.specs.Codes.{Codes, Contains, LeastBelow, LowestIn, OneWord, Shared, both, either, highOf, lowOf, only}
+use Rattle.meaning.proofs.general.Properties.{count-joined, count-same}
+use Rattle.codes.specs.Codes.{Codes, Contains, LeastBelow, LowestIn, OneWord, Shared, both, either, highOf, limit, lowOf, only}
 use Rattle.codes.proofs.Members.{both-has, either-has, only-has}
 
 -- the set whose words are these has the codes of the number s
@@ -20,10 +22,19 @@ set-has : (low high : ℕ) {s : ℕ} (P : ℕ → Type 0) → inWords low high �
 unfolding Contains
 set-has low high P e told = λ c. subst (λ (n : ℕ). Has n c ↔ P c) (sym e) (told c)
 
--- the words that are handed out hold the set
-pub words-contain : (s : Codes) (low high : ℕ) → low ≡ lowOf s → high ≡ highOf s → (c : ℕ) → Has (inWords low high) c ↔ Contains s c
-unfolding Contains
-words-contain s low high l h c = subst₂ (λ (x y : ℕ). Has (inWords x y) c ↔ Contains s c) (sym l) (sym h) Iff·rfl
+module _ (s : Codes) {low high : ℕ} (l : (low ≡ lowOf s) × OneWord low) (h : (high ≡ highOf s) × OneWord high) where
+  -- the words that are handed out have the codes of the set
+  words-contain : (c : ℕ) → Has (inWords low high) c ↔ Contains s c
+  unfolding Contains
+  words-contain c = subst₂ (λ (x y : ℕ). Has (inWords x y) c ↔ Contains s c) (sym (l .0)) (sym (h .0)) Iff·rfl
+
+  -- so they hold the set of what it has
+  pub words-set : {P : ℕ → Type 0} → ((c : ℕ) → Contains s c ↔ P c) → SetInWords P low high
+  words-set told = record { low-word = l .1; high-word = h .1; codes = λ c. Iff·trans (words-contain c) (told c) }
+
+  -- and have as many
+  pub words-count : {n : ℕ} → CountBelow (Contains s) limit n → CountBelow (Has (inWords low high)) limit n
+  words-count told = count-same (λ c k. Iff·symm (words-contain c)) told
 
 pub none-contains : (c : ℕ) → ¬ Contains (0 ∷ 0 ∷ []) c
 unfolding Contains inWords
@@ -148,3 +159,9 @@ module _ (s : Codes) (w : OneWord (lowOf s)) where
       side (inl k) =
           inl (record { holds = high-contains s t w .1 (k .0 .holds); lowest = λ d h. let a = above d h in omega (arith, a .1, k .0 .lowest (a .0) (a .2)) }, omega (arith, k .1))
       side (inr k) = inr (λ d h. let a = above d h in k .0 (a .0) (has-below 64 (highOf s) (a .0) v (a .2)) (a .2), omega (arith, k .1))
+
+-- ---- how many
+
+pub count-in-words : (s : Codes) (a b : ℕ) → CountBelow (Has (lowOf s)) 64 a × OneWord (lowOf s) → CountBelow (Has (highOf s)) 64 b → CountBelow (Contains s) limit (a + b)
+count-in-words s a b low high =
+    count-joined 64 (count-same (λ c l. Iff·symm (low-contains s c (low .1) l)) (low .0)) (count-same (λ c l. Iff·symm (high-contains s c (low .1))) high)

@@ -1,13 +1,14 @@
 -- Sets of codes: what it is to be in one, and the words that the functions make. A caller goes by the laws of membership and opens
--- nothing here, so that how a set is held, as the bits of two words, is known to this crate and to the prompt, which hands the words out.
+-- nothing here, so that how a set is held, as the bits of two words, is known to this crate and to those that hand the words out.
 -- A model of our code, and no promise.
 use mathlib.Core.List.{List}
 use mathlib.Core.Logic.{_⊎_}
 use mathlib.Core.Path.{_≡_}
-use Prim.Native.Nat.{ℕ, _+_, _^_, _≤_, _<_}
+use Prim.Native.Nat.{ℕ, _+_, _^_, _<_}
 use lib.Bits.{bitAnd, bitOr}
 use lib.ListN.{getD}
 use Rattle.meaning.specs.Codes.{Has, inWords, mostCode}
+use Rattle.meaning.specs.Properties.{Least}
 
 -- Every code is below this.
 abbrev pub limit : ℕ
@@ -31,12 +32,7 @@ either a b = bitOr a b
 unfoldable pub both : ℕ → ℕ → ℕ
 both a b = bitAnd a b
 
--- c is the lowest of which P holds.
-pub record Least (P : ℕ → Type 0) (c : ℕ) : Type 0 where
-  pub holds : P c
-  pub lowest : (d : ℕ) → P d → c ≤ d
-
--- c is the lowest of which P holds, and is below k; or P holds of none below k, and c is k.
+-- c is the lowest that has P, and is below k; or none below k has P, and c is k.
 abbrev pub LeastBelow : ℕ → (ℕ → Type 0) → ℕ → Type 0
 LeastBelow k P c = (Least P c × (c < k)) ⊎ (((d : ℕ) → d < k → ¬ P d) × (c ≡ k))
 

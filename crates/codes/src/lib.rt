@@ -4,6 +4,7 @@ ghost use mathlib.Core.Bool.{So, true};
 ghost use mathlib.Core.Logic.{_↔_, _⊎_};
 ghost use mathlib.Core.Path.{_≡_};
 ghost use Prim.Native.Nat.{ℕ, _<_};
+ghost use Rattle.meaning.specs.Properties.{CountBelow};
 ghost use Rattle.codes.specs.Codes.{Contains, LowestIn, OneWord, Shared, highOf, limit, lowOf};
 
 mod word; // word.rt: one word
@@ -64,6 +65,15 @@ pub fn lowest(s: [u64; 2]) -> u32
         return low;
     }
     word::BITS + word::lowest(s[1])
+}
+
+// How many codes the set has.
+pub fn count(s: [u64; 2]) -> u32
+    ensures { λ r. ⌜ CountBelow (Contains s) limit r ⌝ }
+{
+    let low = word::count(s[0]);
+    let high = word::count(s[1]);
+    low + high
 }
 
 // Whether the set has a code.

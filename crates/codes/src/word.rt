@@ -5,6 +5,7 @@ ghost use mathlib.Core.Logic.{_↔_};
 ghost use mathlib.Core.Path.{_≡_};
 ghost use Prim.Native.Nat.{_<_};
 ghost use Rattle.meaning.specs.Codes.{Has};
+ghost use Rattle.meaning.specs.Properties.{CountBelow};
 ghost use Rattle.codes.specs.Codes.{LeastBelow, OneWord, both, either, only};
 
 // The bits of a word.
@@ -44,6 +45,13 @@ pub fn has(w: u64, c: u32) -> bool
     ensures { λ r. ⌜ ((r ≡ true) ↔ Has w c) × OneWord w ⌝ }
 {
     if c < BITS { (w >> c) % 2 == 1 } else { false }
+}
+
+// How many are in the word.
+pub fn count(w: u64) -> u32
+    ensures { λ r. ⌜ CountBelow (Has w) 64 r × OneWord w ⌝ }
+{
+    u64::count_ones(w)
 }
 
 // The lowest that is in the word, or BITS where nothing is.

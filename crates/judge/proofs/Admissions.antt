@@ -5,7 +5,8 @@ use mathlib.Core.Logic.{⊎-elim}
 use mathlib.Core.Path.{_≡_, subst}
 use Prim.Native.Nat.{ℕ, _<_}
 use native.Mathlib.Omega.{arith}
-use Rattle.codes.specs.Codes.{Codes, Contains, Least, LowestIn, limit}
+use Rattle.codes.specs.Codes.{Codes, Contains, LowestIn, OneWord, highOf, limit, lowOf}
+use Rattle.codes.proofs.Pairs.{words-count, words-set}
 use Rattle.meaning.specs.declared.JudgeAnswer.the-variants as answer
 use Rattle.meaning.specs.declared.Refusal.{Refusal}
 use Rattle.meaning.specs.declared.Refusal.the-variants.{Conflict}
@@ -13,9 +14,11 @@ use Rattle.meaning.specs.Conflict.{ConflictAt}
 use Rattle.meaning.specs.Expr.{Expr}
 use Rattle.meaning.specs.File.{Barred, malformed, conflicting}
 use Rattle.meaning.specs.Promises.{Judges}
+use Rattle.meaning.specs.Properties.{CountBelow, Least}
 use Rattle.meaning.specs.Sets.{First}
 use Rattle.meaning.proofs.determinism.Diverge.{strong-iff-no-conflict}
 use Rattle.meaning.proofs.file.Files.{holds-bounded}
+use Rattle.meaning.proofs.general.Properties.{least-same}
 use Rattle.procedure.specs.Entry.{held}
 use Rattle.procedure.specs.Listing.{Listing}
 use Rattle.procedure.specs.Opening.{Filled, Opens}
@@ -49,16 +52,19 @@ module _ (f nodes starts : List ℕ) (nulls : List Bool) (repeats : List ℕ) wh
             beginnings = begun;
           }
 
-      -- and with one the lowest is named
-      pub admits-not : code < limit → Barred f (Conflict (x .node) (x .kind) code)
-      admits-not some =
-          let least : Least (Contains (x .shared)) code = ⊎-elim (λ l. l .0) (λ l. let h = l .1 in absurd (omega arith)) looked in
-          conflicting (filled .expr) (x .node) (x .kind) code (filled .holds) (record {
-            there = lowest .shares code .0 (least .holds);
-            lowest-node = lowest .lowest-node;
-            lowest-kind = lowest .lowest-kind;
-            lowest-code = λ d w. least .lowest d (lowest .shares d .1 w);
+      -- and with one the lowest is named, with all the codes that it shares
+      pub admits-not : (low high n : ℕ) → code < limit → (low ≡ lowOf (x .shared)) × OneWord low → (high ≡ highOf (x .shared)) × OneWord high
+          → CountBelow (Contains (x .shared)) limit n → Barred f (Conflict (x .node) (x .kind) code low high n)
+      admits-not low high n some l h counted =
+          let least : Least (Contains (x .shared)) code = ⊎-elim (λ o. o .0) (λ o. let z = o .1 in absurd (omega arith)) looked in
+          let there = lowest .shares code .0 (least .holds) in
+          conflicting (filled .expr) (x .node) (x .kind) code low high n (filled .holds)
+          (record {
+            node = record { holds = (x .kind, code, there); lowest = λ i w. lowest .lowest-node i (w .0) (w .1) (w .2) };
+            kind = record { holds = (code, there); lowest = λ k w. lowest .lowest-kind k (w .0) (w .1) };
+            code = least-same (lowest .shares) least;
           })
+          (record { set = words-set (x .shared) l h (lowest .shares); count = words-count (x .shared) l h counted })
 
   -- it was refused
   pub admits-neither : (o : Opened) (r : Refusal) → Opens f nodes starts nulls repeats o → o ≡ opened.Refused r → Barred f r

@@ -32,14 +32,24 @@ pub fn admit(
             let shared = found.shared;
             let code = codes::lowest(shared);
             if code < codes::LIMIT {
-                return Admission::Refused(Refusal::Conflict(found.node, found.kind, code));
+                let low = codes::low(shared);
+                let high = codes::high(shared);
+                let many = codes::count(shared);
+                return Admission::Refused(Refusal::Conflict(
+                    found.node,
+                    found.kind,
+                    code,
+                    low,
+                    high,
+                    many,
+                ));
             }
             Admission::Nodes(n, count)
         }
     }
 }
 
-// Judge: 0 to 7, with node, kind and code.
+// Judge: 0 to 7, with node, kind, code and shared codes.
 pub fn judge(file: &[u8]) -> JudgeAnswer
     ensures { λ r. ⌜ Judges (now (file .entry)) r ⌝ }
 {

@@ -3,6 +3,7 @@ pub mod Listed
 pub mod Answer
 pub mod Bounds
 pub mod ConflictList
+pub mod SharedSet
 pub mod Moves
 pub mod Search
 pub mod Followed

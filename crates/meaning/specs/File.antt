@@ -9,7 +9,7 @@ use Rattle.meaning.specs.Expr.{Expr, size}
 use Rattle.meaning.specs.Bytes.{byteAt, twoAt, fourAt}
 use Rattle.meaning.specs.Node.{Node, node, InTable, Stands, InOrder, repeatsBelow}
 use Rattle.meaning.specs.Strong.{StronglyDeterministic}
-use Rattle.meaning.specs.Conflict.{LowestConflict}
+use Rattle.meaning.specs.Conflict.{LowestConflict, SharedCodes}
 
 -- the trailer's four letters
 abbrev pub letters : List ℕ → List ℕ
@@ -92,7 +92,7 @@ pub record Holds (f : List ℕ) (e : Expr) : Type 0 where
 -- the file is refused with one of 1 to 7
 pub data Barred (f : List ℕ) : Refusal → Type 0 where
   malformed : {r : Refusal} → Refused f r → Barred f r
-  conflicting : (e : Expr) (i k c : ℕ) → Holds f e → LowestConflict e i k c → Barred f (Conflict i k c)
+  conflicting : (e : Expr) (i k c low high n : ℕ) → Holds f e → LowestConflict e i k c → SharedCodes e i k low high n → Barred f (Conflict i k c low high n)
 
 -- the file is admitted: none of 1 to 6 applies, and its expression is strongly deterministic
 pub record Admitted (f : List ℕ) (e : Expr) : Type 0 where

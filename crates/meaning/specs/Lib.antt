@@ -1,5 +1,6 @@
 pub mod Expr
 pub mod Lists
+pub mod Properties
 pub mod Word
 pub mod Normal
 pub mod Reading

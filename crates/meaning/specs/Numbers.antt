@@ -15,29 +15,36 @@ use Rattle.meaning.specs.declared.CheckAnswer.the-variants as check
 use Rattle.meaning.specs.declared.PromptAnswer.{PromptAnswer}
 use Rattle.meaning.specs.declared.PromptAnswer.the-variants as prompt
 
--- the numbers of Judge: 0 to 7, node, kind, code
+-- the numbers of Judge: 0 to 7, node, kind, code, the two words of the set of shared codes, and how many they are
 pub record JudgeNumbers : Type 0 where
   pub answer : ℕ
   pub node : ℕ
   pub kind : ℕ
   pub code : ℕ
+  pub low : ℕ
+  pub high : ℕ
+  pub count : ℕ
 
-abbrev pub judged : ℕ → ℕ → ℕ → ℕ → JudgeNumbers
-judged a i k c = record { answer = a; node = i; kind = k; code = c }
+abbrev pub judged : ℕ → ℕ → ℕ → ℕ → ℕ → ℕ → ℕ → JudgeNumbers
+judged a i k c l h n = record { answer = a; node = i; kind = k; code = c; low = l; high = h; count = n }
 
--- the table of numbers: the number of a refusal, the node reported, and the kind and code of a conflict
+-- an answer with a node and no conflict
+abbrev pub plain : ℕ → ℕ → JudgeNumbers
+plain a i = judged a i 0 0 0 0 0
+
+-- the table of numbers: the number of a refusal, the node reported, and what is told of a conflict
 abbrev pub row : Refusal → JudgeNumbers
-row Size = judged 1 0 0 0
-row Letters = judged 2 0 0 0
-row Measures = judged 3 0 0 0
-row (Record i) = judged 4 i 0 0
-row (Order i) = judged 5 i 0 0
-row (Repeats i) = judged 6 i 0 0
-row (Conflict i k c) = judged 7 i k c
-row Unreached = judged 8 0 0 0
-row Length = judged 9 0 0 0
-row Incomplete = judged 10 0 0 0
-row Room = judged 11 0 0 0
+row Size = plain 1 0
+row Letters = plain 2 0
+row Measures = plain 3 0
+row (Record i) = plain 4 i
+row (Order i) = plain 5 i
+row (Repeats i) = plain 6 i
+row (Conflict i k c l h n) = judged 7 i k c l h n
+row Unreached = plain 8 0
+row Length = plain 9 0
+row Incomplete = plain 10 0
+row Room = plain 11 0
 
 -- 0 complete, 1 unfinished, 2 broken
 abbrev pub verdictNumber : Verdict → ℕ
@@ -46,7 +53,7 @@ verdictNumber Unfinished = 1
 verdictNumber Broken = 2
 
 abbrev pub judgeNumbers : JudgeAnswer → JudgeNumbers
-judgeNumbers judge.Admitted = judged 0 0 0 0
+judgeNumbers judge.Admitted = plain 0 0
 judgeNumbers (judge.Refused r) = row r
 
 -- the numbers of Follow: 0 to 8, the number of events taken, the verdict

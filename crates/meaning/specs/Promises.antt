@@ -1,8 +1,7 @@
 -- What each public call promises: every number it gives and every byte of the lent space afterwards.
 use mathlib.Core.Path.{_≡_}
-use mathlib.Core.Logic.{_↔_}
 use mathlib.Core.List.{List, _++_}
-use Prim.Native.Nat.{ℕ, zero, suc, _^_, _≤_, _<_}
+use Prim.Native.Nat.{ℕ, zero, suc, _≤_, _<_}
 use lib.ListN.{length, take, drop}
 use Rattle.meaning.specs.declared.Refusal.{Refusal}
 use Rattle.meaning.specs.declared.Refusal.the-variants.{Unreached, Length, Incomplete, Room}
@@ -22,7 +21,7 @@ use Rattle.meaning.specs.Expr.{Expr}
 use Rattle.meaning.specs.Word.{Word, Begins}
 use Rattle.meaning.specs.Reading.{Item, Reading, codes}
 use Rattle.meaning.specs.Sets.{FirstWorded}
-use Rattle.meaning.specs.Codes.{Has, inWords}
+use Rattle.meaning.specs.Codes.{SetInWords}
 use Rattle.meaning.specs.Bytes.{twoAt}
 use Rattle.meaning.specs.File.{Refused, Holds, Barred, Admitted}
 use Rattle.meaning.specs.State.{ReachesBytes}
@@ -91,8 +90,8 @@ Lights e (suc i) c = (j : ℕ) × DirectlyFollows (loosen e) i j c
 pub data Prompts (f state : List ℕ) : PromptAnswer → Type 0 where
   refused : (r : Refusal) → Barred f r → Prompts f state (prompt.Refused r)
   unreached : (e : Expr) → Admitted f e → NoneReaches e state → Prompts f state (prompt.Refused Unreached)
-  lit : (e : Expr) (u : List ℕ) (low high : ℕ) → Admitted f e → ReachesBytes e u state → low < 2 ^ 64 → high < 2 ^ 64
-      → ((c : ℕ) → Has (inWords low high) c ↔ Lights e (twoAt state 0) c) → Prompts f state (prompt.Lit low high)
+  lit : (e : Expr) (u : List ℕ) (low high : ℕ) → Admitted f e → ReachesBytes e u state
+      → SetInWords (Lights e (twoAt state 0)) low high → Prompts f state (prompt.Lit low high)
 
 -- the promises on numbers and bytes, as the calls give them
 unfoldable pub JudgePromise : List ℕ → JudgeNumbers → Type 0

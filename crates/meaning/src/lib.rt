@@ -14,8 +14,9 @@ pub enum Refusal {
     Order(usize),
     // 6: this node is the 33rd repeat.
     Repeats(usize),
-    // 7: the lowest conflict: its node, its kind and the lowest of its shared codes.
-    Conflict(usize, u32, u32),
+    // 7: the lowest conflict: its node, its kind, the lowest of its shared codes, all of them as a set in two words, low word first, and
+    // how many they are.
+    Conflict(usize, u32, u32, u64, u64, u32),
     // 8: the state is not 66 bytes, or no beginning of a word reaches it.
     Unreached,
     // 9: the run to be written is over 65,536 events.

@@ -1,6 +1,6 @@
 -- From an admitted file and the bytes of a state to the answer of Prompt. Assumes nothing.
 use mathlib.Core.Path.{_≡_, sym, ap, subst, _∙_}
-use mathlib.Core.Logic.{_↔_, Iff·trans}
+use mathlib.Core.Logic.{_↔_}
 use mathlib.Core.Bool.{Bool}
 use mathlib.Core.List.{List}
 use Prim.Native.Nat.{ℕ, _-_, _≤_}
@@ -11,9 +11,8 @@ use Rattle.meaning.specs.Bytes.{twoAt}
 use Rattle.meaning.specs.theory.Places.{codeAt, nodeOf}
 use Rattle.meaning.specs.theory.Spots.{Spot, start, behind}
 use Rattle.meaning.proofs.general.Twos.{first-two}
-use Rattle.codes.specs.Codes.{Codes, OneWord, highOf, lowOf}
-use Rattle.codes.proofs.Pairs.{words-contain}
-use Rattle.meaning.specs.Codes.{Has, inWords}
+use Rattle.codes.specs.Codes.{Codes, Contains, OneWord, highOf, lowOf}
+use Rattle.codes.proofs.Pairs.{words-set}
 use Rattle.meaning.specs.Expr.{Expr}
 use Rattle.meaning.specs.File.{Admitted}
 use Rattle.meaning.specs.Promises.{Lights, Prompts}
@@ -66,5 +65,4 @@ prompts-lit f bytes counts e a node set low high admitted w planned told is lit 
     let came = read-spot e bytes counts a node (omega (arith, tables-repeats w, w .few-repeats)) told is in
     let run = bytes-reached-iff e (listing-bounded (w .listing)) bytes .1 (came .0, came .1, came .3) in
     let same = decoded-node (subst (ReadOf e bytes counts) is told .0) in
-    Prompts.lit e (run .0) low high admitted (run .1) (l .1) (h .1)
-    (λ c. subst (λ (i : ℕ). Has (inWords low high) c ↔ Lights e i c) same (Iff·trans (words-contain set low high (l .0) (h .0) c) (lit .holds e planned c)))
+    Prompts.lit e (run .0) low high admitted (run .1) (words-set set l h (subst (λ (i : ℕ). (c : ℕ) → Contains set c ↔ Lights e i c) same (lit .holds e planned)))

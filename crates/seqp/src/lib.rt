@@ -10,22 +10,38 @@ use meaning::WriteAnswer;
 
 mod rows; // rows.rt: a refusal and a verdict as the request's numbers
 
-// Judge: 0 to 7; the node that is named, the kind and the code of a conflict, or 0.
+// Judge: 0 to 7; the node that is named; the kind and the lowest code of a conflict, all codes that it shares, 0 to 63 as the bits of
+// `low` and the others, less 64, as those of `high`, and how many they are; or 0.
 #[no_mangle]
-pub extern "C" fn seq_judge(file: &[u8], node: &mut u32, kind: &mut u32, code: &mut u32) -> u32
-    ensures { λ r. ⌜ JudgePromise (now (file .entry)) (judged r (now (node .exit)) (now (kind .exit)) (now (code .exit))) ⌝ }
+pub extern "C" fn seq_judge(
+    file: &[u8],
+    node: &mut u32,
+    kind: &mut u32,
+    code: &mut u32,
+    low: &mut u64,
+    high: &mut u64,
+    count: &mut u32,
+) -> u32
+    ensures { λ r. ⌜ JudgePromise (now (file .entry)) (judged r (now (node .exit)) (now (kind .exit)) (now (code .exit)) (now (low .exit)) (now (high .exit)) (now (count .exit))) ⌝ }
 {
     *node = 0;
     *kind = 0;
     *code = 0;
+    *low = 0;
+    *high = 0;
+    *count = 0;
     match judge::judge(file) {
         JudgeAnswer::Admitted => 0,
         JudgeAnswer::Refused(refusal) => {
+            let row = rows::row_of(refusal);
             // At most 511: a file has at most 512 nodes.
-            *node = rows::node_of(refusal) as u32;
-            *kind = rows::kind_of(refusal);
-            *code = rows::code_of(refusal);
-            rows::number_of(refusal)
+            *node = row.node as u32;
+            *kind = row.kind;
+            *code = row.code;
+            *low = row.low;
+            *high = row.high;
+            *count = row.count;
+            row.answer
         }
     }
 }

@@ -1,83 +1,68 @@
 // The rows of the request's tables: a refusal and a verdict as its numbers. Every case is named, so that a new one has to be told.
 ghost use mathlib.Core.Path.{_≡_};
-ghost use Rattle.meaning.specs.Numbers.{row, verdictNumber};
+ghost use Rattle.meaning.specs.Numbers.{judged, plain, row, verdictNumber};
 use meaning::Refusal;
 use meaning::Verdict;
 
-// The number of the request's table.
+// A row of the table of refusals: the number, and what Judge reports with it.
+pub struct Row {
+    pub answer: u32,
+    pub node: usize,
+    pub kind: u32,
+    pub code: u32,
+    pub low: u64,
+    pub high: u64,
+    pub count: u32,
+}
+
+// A row with no conflict.
+fn plain(answer: u32, node: usize) -> Row
+    ensures { λ r. ⌜ judged (r .answer) (r .node) (r .kind) (r .code) (r .low) (r .high) (r .count) ≡ plain answer node ⌝ }
+{
+    Row {
+        answer,
+        node,
+        kind: 0,
+        code: 0,
+        low: 0,
+        high: 0,
+        count: 0,
+    }
+}
+
+// The row of the request's table.
+pub fn row_of(refusal: Refusal) -> Row
+    ensures { λ r. ⌜ judged (r .answer) (r .node) (r .kind) (r .code) (r .low) (r .high) (r .count) ≡ row refusal ⌝ }
+{
+    match refusal {
+        Refusal::Size => plain(1, 0),
+        Refusal::Letters => plain(2, 0),
+        Refusal::Measures => plain(3, 0),
+        Refusal::Record(node) => plain(4, node),
+        Refusal::Order(node) => plain(5, node),
+        Refusal::Repeats(node) => plain(6, node),
+        Refusal::Conflict(node, kind, code, low, high, count) => Row {
+            answer: 7,
+            node,
+            kind,
+            code,
+            low,
+            high,
+            count,
+        },
+        Refusal::Unreached => plain(8, 0),
+        Refusal::Length => plain(9, 0),
+        Refusal::Incomplete => plain(10, 0),
+        Refusal::Room => plain(11, 0),
+    }
+}
+
+// Its number alone.
 pub fn number_of(refusal: Refusal) -> u32
     ensures { λ r. ⌜ r ≡ row refusal .answer ⌝ }
 {
-    match refusal {
-        Refusal::Size => 1,
-        Refusal::Letters => 2,
-        Refusal::Measures => 3,
-        Refusal::Record(_) => 4,
-        Refusal::Order(_) => 5,
-        Refusal::Repeats(_) => 6,
-        Refusal::Conflict(_, _, _) => 7,
-        Refusal::Unreached => 8,
-        Refusal::Length => 9,
-        Refusal::Incomplete => 10,
-        Refusal::Room => 11,
-    }
-}
-
-// The node reported, or 0.
-pub fn node_of(refusal: Refusal) -> usize
-    ensures { λ r. ⌜ r ≡ row refusal .node ⌝ }
-{
-    match refusal {
-        Refusal::Size => 0,
-        Refusal::Letters => 0,
-        Refusal::Measures => 0,
-        Refusal::Record(node) => node,
-        Refusal::Order(node) => node,
-        Refusal::Repeats(node) => node,
-        Refusal::Conflict(node, _, _) => node,
-        Refusal::Unreached => 0,
-        Refusal::Length => 0,
-        Refusal::Incomplete => 0,
-        Refusal::Room => 0,
-    }
-}
-
-// The kind of a conflict, or 0.
-pub fn kind_of(refusal: Refusal) -> u32
-    ensures { λ r. ⌜ r ≡ row refusal .kind ⌝ }
-{
-    match refusal {
-        Refusal::Size => 0,
-        Refusal::Letters => 0,
-        Refusal::Measures => 0,
-        Refusal::Record(_) => 0,
-        Refusal::Order(_) => 0,
-        Refusal::Repeats(_) => 0,
-        Refusal::Conflict(_, kind, _) => kind,
-        Refusal::Unreached => 0,
-        Refusal::Length => 0,
-        Refusal::Incomplete => 0,
-        Refusal::Room => 0,
-    }
-}
-
-// The code of a conflict, or 0.
-pub fn code_of(refusal: Refusal) -> u32
-    ensures { λ r. ⌜ r ≡ row refusal .code ⌝ }
-{
-    match refusal {
-        Refusal::Size => 0,
-        Refusal::Letters => 0,
-        Refusal::Measures => 0,
-        Refusal::Record(_) => 0,
-        Refusal::Order(_) => 0,
-        Refusal::Repeats(_) => 0,
-        Refusal::Conflict(_, _, code) => code,
-        Refusal::Unreached => 0,
-        Refusal::Length => 0,
-        Refusal::Incomplete => 0,
-        Refusal::Room => 0,
-    }
+    let row = row_of(refusal);
+    row.answer
 }
 
 // How a run stands.

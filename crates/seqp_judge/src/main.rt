@@ -1,4 +1,4 @@
-// Judges the procedure file on standard input: one line of answer, node, kind and code in decimal.
+// Judges the procedure file on standard input: one line of answer, node, kind, code and number of shared codes in decimal.
 use libc::STDIN_FILENO;
 use libc::STDOUT_FILENO;
 
@@ -17,9 +17,21 @@ fn main() {
     let mut node: u32 = 0;
     let mut kind: u32 = 0;
     let mut code: u32 = 0;
-    let answer = seqp::seq_judge(&file[..length], &mut node, &mut kind, &mut code);
+    let mut low: u64 = 0;
+    let mut high: u64 = 0;
+    let mut count: u32 = 0;
+    let answer = seqp::seq_judge(
+        &file[..length],
+        &mut node,
+        &mut kind,
+        &mut code,
+        &mut low,
+        &mut high,
+        &mut count,
+    );
     print_field(answer, b' ');
     print_field(node, b' ');
     print_field(kind, b' ');
-    print_field(code, b'\n');
+    print_field(code, b' ');
+    print_field(count, b'\n');
 }

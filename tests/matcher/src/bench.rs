@@ -2,6 +2,7 @@
 //! the five calls.
 
 use crate::calls::{check, follow, judge, prompt, write, Outcome};
+use crate::codes::{one, Codes};
 use crate::file;
 use crate::parse::tree;
 use crate::state::{Place, STATE_BYTES};
@@ -17,14 +18,20 @@ fn run_of(text: &str) -> Vec<u8> {
     text.bytes().map(|letter| letter - b'a').collect()
 }
 
-fn judged(text: &str) -> (u32, usize, u32, u8) {
+/// Answer, node, kind, code and shared codes.
+type Judged = (u32, usize, u32, u8, Codes);
+
+const ADMITTED: Judged = (0, 0, 0, 0, 0);
+
+fn judged(text: &str) -> Judged {
     match judge(&file_of(text)) {
         Outcome::Judge {
             answer,
             node,
             kind,
             code,
-        } => (answer, node, kind, code),
+            shared,
+        } => (answer, node, kind, code, shared),
         other => panic!("{other:?}"),
     }
 }
@@ -75,21 +82,22 @@ fn recorded(text: &str, run: &str) -> Vec<u16> {
 
 #[test]
 fn bench_judgements() {
+    let (a, b) = (one(0), one(1));
     let table = [
-        ("a{2,4}", (0, 0, 0, 0)),
-        ("(a{0,1}){0,3}", (0, 0, 0, 0)),
-        ("(a{1,2}){3,4}", (7, 2, 4, 0)),
-        ("((a+e)(b+e)){0,2}", (7, 7, 4, 1)),
-        ("a{2,2}a", (0, 0, 0, 0)),
-        ("a{0,2}a", (7, 3, 2, 0)),
-        ("a{2,3}a", (7, 3, 3, 0)),
-        ("(a{2,3}(b+e)){0,}", (7, 6, 4, 0)),
-        ("(eb{0,1}){0,2}", (0, 0, 0, 0)),
-        ("(a+e){3,3}", (0, 0, 0, 0)),
-        ("a+ab", (7, 4, 1, 0)),
-        ("(ab){1,2}", (0, 0, 0, 0)),
-        ("e", (0, 0, 0, 0)),
-        ("(a{2,2}){0,}", (0, 0, 0, 0)),
+        ("a{2,4}", ADMITTED),
+        ("(a{0,1}){0,3}", ADMITTED),
+        ("(a{1,2}){3,4}", (7, 2, 4, 0, a)),
+        ("((a+e)(b+e)){0,2}", (7, 7, 4, 1, b)),
+        ("a{2,2}a", ADMITTED),
+        ("a{0,2}a", (7, 3, 2, 0, a)),
+        ("a{2,3}a", (7, 3, 3, 0, a)),
+        ("(a{2,3}(b+e)){0,}", (7, 6, 4, 0, a)),
+        ("(eb{0,1}){0,2}", ADMITTED),
+        ("(a+e){3,3}", ADMITTED),
+        ("a+ab", (7, 4, 1, 0, a)),
+        ("(ab){1,2}", ADMITTED),
+        ("e", ADMITTED),
+        ("(a{2,2}){0,}", ADMITTED),
     ];
     for (text, expected) in table {
         assert_eq!(judged(text), expected, "{text}");
@@ -148,13 +156,14 @@ fn counters_tell_the_present_stay() {
 
 #[test]
 fn kind_goes_before_code() {
-    assert_eq!(judged("(#5 #1{0,1}){0,1}(#5+#1)"), (7, 8, 2, 5));
+    let text = "(#5 #1{0,1}){0,1}(#5+#1)";
+    assert_eq!(judged(text), (7, 8, 2, 5, one(5)));
 }
 
 #[test]
 fn readings_are_lists_of_items() {
-    assert_eq!(judged("e+e"), (0, 0, 0, 0));
-    assert_eq!(judged("a{0,1}+b{0,1}"), (0, 0, 0, 0));
+    assert_eq!(judged("e+e"), ADMITTED);
+    assert_eq!(judged("a{0,1}+b{0,1}"), ADMITTED);
 }
 
 fn follow_state(text: &str, state: &[u8], events: &[u8]) -> Outcome {
@@ -365,7 +374,7 @@ fn prompts() {
 fn codes_at_the_edges() {
     for code in [0, 63, 64, 65, 126, 127] {
         let text = format!("#{code}{{1,2}}");
-        assert_eq!(judged(&text), (0, 0, 0, 0));
+        assert_eq!(judged(&text), ADMITTED);
         let complete = Outcome::Follow {
             answer: 0,
             taken: 2,
@@ -398,7 +407,8 @@ fn codes_at_the_edges() {
                 answer: 4,
                 node: 1,
                 kind: 0,
-                code: 0
+                code: 0,
+                shared: 0
             }
         );
     }

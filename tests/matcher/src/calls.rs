@@ -63,6 +63,8 @@ pub enum Outcome {
         node: usize,
         kind: u32,
         code: u8,
+        /// All the codes that the conflict shares; Judge also counts them.
+        shared: Codes,
     },
     Follow {
         answer: u32,
@@ -169,16 +171,16 @@ pub fn answer(call: &Call) -> Outcome {
 }
 
 pub fn judge(file: &[u8]) -> Outcome {
+    let without_conflict = |answer, node| Outcome::Judge {
+        answer,
+        node,
+        kind: 0,
+        code: 0,
+        shared: 0,
+    };
     let tree = match file::read(file) {
         Ok(tree) => tree,
-        Err(refusal) => {
-            return Outcome::Judge {
-                answer: refusal.answer,
-                node: refusal.node,
-                kind: 0,
-                code: 0,
-            }
-        }
+        Err(refusal) => return without_conflict(refusal.answer, refusal.node),
     };
     match Procedure::new(tree).conflict {
         Some(conflict) => Outcome::Judge {
@@ -186,13 +188,9 @@ pub fn judge(file: &[u8]) -> Outcome {
             node: conflict.node,
             kind: conflict.kind,
             code: conflict.code(),
+            shared: conflict.shared,
         },
-        None => Outcome::Judge {
-            answer: 0,
-            node: 0,
-            kind: 0,
-            code: 0,
-        },
+        None => without_conflict(0, 0),
     }
 }
 

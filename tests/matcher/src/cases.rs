@@ -2,6 +2,7 @@
 //! every answer of every call comes up often enough whatever the seed.
 
 mod edges;
+mod shared;
 mod writes;
 
 use crate::calls::{Call, Procedure, MOST_EVENTS};
@@ -17,7 +18,7 @@ use crate::state::STATE_BYTES;
 use crate::stream;
 use crate::themes::{Theme, Theme as T, BENCH, ROUND};
 use crate::trail::{self, Trail};
-use crate::tree::{Bounds, Symbol, Tree};
+use crate::tree::{Symbol, Tree, ENDLESS};
 use std::collections::HashMap;
 
 /// Makes one call after another.
@@ -71,7 +72,8 @@ impl Maker {
             T::Field | T::Limit => self.any_call(theme, turn),
             T::Edges => self.edges(turn),
             T::JudgeRefused | T::JudgeSmall | T::JudgeAdmitted => self.judge(theme, turn),
-            T::JudgeConflicted | T::JudgeLarge | T::JudgeRepeats => self.judge(theme, turn),
+            T::JudgeConflicted | T::JudgeShared => self.judge(theme, turn),
+            T::JudgeLarge | T::JudgeRepeats => self.judge(theme, turn),
             T::FollowRefused | T::FollowWrongState => self.follow_refused(theme, turn),
             T::FollowLong => self.follow_long(turn),
             T::FollowNested | T::FollowBroken | T::FollowAdmitted => self.follow(theme, turn),
@@ -203,6 +205,7 @@ impl Maker {
             T::JudgeSmall => (*grow::any(random).tree).clone(),
             T::JudgeAdmitted => (*grow::admitted(random).tree).clone(),
             T::JudgeConflicted => (*grow::conflicted(random, turn as u32 % 4 + 1).tree).clone(),
+            T::JudgeShared => shared::tree(random, turn),
             T::JudgeLarge if turn % 8 < 4 => grow::largest(random, shape),
             T::JudgeLarge => grow::large(random, shape),
             _ => {
@@ -274,12 +277,8 @@ impl Maker {
             if free.is_empty() || inner.tree.repeats().len() == MOST_REPEATS {
                 continue;
             }
-            let endless = Symbol::Repeat(Bounds {
-                lower: 0,
-                upper: None,
-            });
             let own = Symbol::Event(self.random.pick(&free));
-            let more = [own, Symbol::Sequence, endless];
+            let more = [own, Symbol::Sequence, ENDLESS];
             let tree = Tree::from_postfix([inner.tree.symbols(), &more].concat()).expect("a tree");
             return Procedure::new(tree);
         }

@@ -37,19 +37,29 @@ pub fn has(codes: Codes, code: u8) -> bool {
     code <= MOST_CODE && codes & one(code) != 0
 }
 
+/// The codes of the set, rising.
+pub fn of(codes: Codes) -> impl Iterator<Item = u8> {
+    all().filter(move |&code| has(codes, code))
+}
+
 /// The lowest code of the set.
 pub fn lowest(codes: Codes) -> Option<u8> {
-    all().find(|&code| has(codes, code))
+    of(codes).next()
+}
+
+/// How many codes the set has.
+pub fn count(codes: Codes) -> usize {
+    of(codes).count()
 }
 
 #[cfg(test)]
 mod tests {
-    use super::{all, has, lowest, one, LOW_WORD};
+    use super::{all, count, has, lowest, of, one, LOW_WORD};
 
     #[test]
     fn every_code_has_a_bit_of_its_own() {
         let both_ends = one(0) | one(63) | one(64) | one(127);
-        assert_eq!(both_ends.count_ones(), 4);
+        assert_eq!(of(both_ends).collect::<Vec<_>>(), [0, 63, 64, 127]);
         for code in 0..=255 {
             assert_eq!(has(both_ends, code), [0, 63, 64, 127].contains(&code));
         }
@@ -64,6 +74,17 @@ mod tests {
         assert_eq!(lowest(one(64) | one(127)), Some(64));
         assert_eq!(lowest(one(127)), Some(127));
         assert_eq!(lowest(0), None);
+    }
+
+    #[test]
+    fn codes_of_both_words_are_counted() {
+        assert_eq!(count(0), 0);
+        assert_eq!(count(one(127)), 1);
+        assert_eq!(count(one(63) | one(64)), 2);
+        assert_eq!(
+            (count(LOW_WORD), count(!LOW_WORD), count(!0)),
+            (64, 64, 128)
+        );
     }
 
     #[test]

@@ -120,7 +120,7 @@ mod tests {
     #[test]
     fn equal_lines_do_not_differ() {
         assert_eq!(
-            told("J 0 0 0 0\nC 0 1\n", "J 0 0 0 0\nC 0 1\n").0,
+            told("J 0 0 0 0 0 0 0\nC 0 1\n", "J 0 0 0 0 0 0 0\nC 0 1\n").0,
             Compared {
                 lines: 2,
                 differ: 0
@@ -146,6 +146,9 @@ mod tests {
             }
         );
         assert_eq!(lines, ["case 1: F: verdict is 2, 1 was expected"]);
+        let (_, lines) = told("J 7 6 1 0 3 0 2\n", "J 7 6 1 0 1 2 2\n");
+        let words = "low is 1, 3 was expected; high is 2, 0 was expected";
+        assert_eq!(lines, [format!("case 1: J: {words}")]);
     }
 
     #[test]

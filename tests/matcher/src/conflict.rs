@@ -107,13 +107,19 @@ fn at_sequence(tree: &Tree, node: Node, sets: &dyn Sets) -> (u32, Codes) {
 mod tests {
     use super::{lowest, Conflict};
     use crate::automaton::Automaton;
+    use crate::codes;
     use crate::parse::tree;
     use crate::words::Words;
     use std::rc::Rc;
 
-    fn named(text: &str) -> Option<(usize, u32, u8)> {
+    /// Node, kind and shared codes.
+    fn named(text: &str) -> Option<(usize, u32, Vec<u8>)> {
         let tree = tree(text);
-        let told = |conflict: Conflict| (conflict.node, conflict.kind, conflict.code());
+        let told = |conflict: Conflict| {
+            let shared: Vec<u8> = codes::of(conflict.shared).collect();
+            assert_eq!(conflict.code(), shared[0], "{text}");
+            (conflict.node, conflict.kind, shared)
+        };
         let by_automaton = lowest(&tree, &Automaton::new(Rc::new(tree.clone()))).map(told);
         let by_words = lowest(&tree, &Words::new(&tree)).map(told);
         assert_eq!(by_automaton, by_words, "{text}");
@@ -122,12 +128,12 @@ mod tests {
 
     #[test]
     fn bench_conflicts() {
-        assert_eq!(named("(a{1,2}){3,4}"), Some((2, 4, 0)));
-        assert_eq!(named("((a+e)(b+e)){0,2}"), Some((7, 4, 1)));
-        assert_eq!(named("a{0,2}a"), Some((3, 2, 0)));
-        assert_eq!(named("a{2,3}a"), Some((3, 3, 0)));
-        assert_eq!(named("(a{2,3}(b+e)){0,}"), Some((6, 4, 0)));
-        assert_eq!(named("a+ab"), Some((4, 1, 0)));
+        assert_eq!(named("(a{1,2}){3,4}"), Some((2, 4, vec![0])));
+        assert_eq!(named("((a+e)(b+e)){0,2}"), Some((7, 4, vec![1])));
+        assert_eq!(named("a{0,2}a"), Some((3, 2, vec![0])));
+        assert_eq!(named("a{2,3}a"), Some((3, 3, vec![0])));
+        assert_eq!(named("(a{2,3}(b+e)){0,}"), Some((6, 4, vec![0])));
+        assert_eq!(named("a+ab"), Some((4, 1, vec![0])));
     }
 
     #[test]
@@ -146,24 +152,37 @@ mod tests {
         }
     }
 
-    /// The lowest kind goes before the lowest code.
+    /// The lowest kind goes before the lowest code, and what another kind of
+    /// the node shares is left out.
     #[test]
     fn kind_goes_before_code() {
-        assert_eq!(named("(#5 #1{0,1}){0,1}(#5+#1)"), Some((8, 2, 5)));
+        assert_eq!(named("(#5 #1{0,1}){0,1}(#5+#1)"), Some((8, 2, vec![5])));
+        assert_eq!(named("(#5 #1{0,1}){0,1}(#6+#1)"), Some((8, 3, vec![1])));
     }
 
-    /// The lowest of the shared codes, whichever words they are in; codes
-    /// that differ by a word's 64 are not shared.
+    /// What a node above or beside shares is left out, higher codes or lower.
+    #[test]
+    fn only_the_lowest_node_tells() {
+        assert_eq!(named("(#7+#7)+(#9+#7)"), Some((2, 1, vec![7])));
+        assert_eq!(named("(#7-8+#8-9)(#1+#1)"), Some((6, 1, vec![8])));
+        assert_eq!(named("(#7{1,2}(#7+#1)){0,}"), Some((5, 3, vec![7])));
+    }
+
+    /// The shared codes, whichever words they are in; codes that differ by a
+    /// word's 64 are not shared.
     #[test]
     fn codes_of_both_words() {
-        assert_eq!(named("(#70+#40)+(#40+#70)"), Some((6, 1, 40)));
-        assert_eq!(named("(#64+#63){0,1}(#63+#64)"), Some((7, 2, 63)));
-        assert_eq!(named("(#127+#65){1,2}(#65+#127)"), Some((7, 3, 65)));
-        assert_eq!(named("((#127+#126){1,2}){3,4}"), Some((4, 4, 126)));
-        assert_eq!(named("#127{0,2}#127"), Some((3, 2, 127)));
+        assert_eq!(named("(#70+#40)+(#40+#70)"), Some((6, 1, vec![40, 70])));
+        assert_eq!(named("(#64+#63){0,1}(#63+#64)"), Some((7, 2, vec![63, 64])));
+        assert_eq!(
+            named("(#127+#65){1,2}(#65+#127)"),
+            Some((7, 3, vec![65, 127]))
+        );
+        assert_eq!(named("(#126-127{1,2}){3,4}"), Some((4, 4, vec![126, 127])));
+        assert_eq!(named("#127{0,2}#127"), Some((3, 2, vec![127])));
         assert_eq!(named("#5+#69"), None);
         assert_eq!(named("#127{0,2}#63"), None);
-        assert_eq!(named("a#64{0,1}#64"), Some((5, 3, 64)));
+        assert_eq!(named("a#64{0,1}#64"), Some((5, 3, vec![64])));
     }
 
     /// Readings are lists of items, not derivations.
@@ -176,8 +195,8 @@ mod tests {
     /// Source 001, lemma 2, on the expressions of its section 2.
     #[test]
     fn source_001_lemma_2() {
-        assert_eq!(named("(a{1,2}){1,2}"), Some((2, 4, 0)));
-        assert_eq!(named("(a+b){6,7}ab(a+b)"), Some((5, 3, 0)));
+        assert_eq!(named("(a{1,2}){1,2}"), Some((2, 4, vec![0])));
+        assert_eq!(named("(a+b){6,7}ab(a+b)"), Some((5, 3, vec![0])));
         assert_eq!(named("(t(x+e)){0,}l"), None);
         assert_eq!(
             named("((t(t+e))(e+(abc))){2,3}").map(|told| told.1),

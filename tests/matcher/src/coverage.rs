@@ -2,14 +2,11 @@
 //! codes they had, and which share of Follow and Write had admitted files with
 //! nested repeats.
 
-use crate::automaton::Automaton;
 use crate::calls::{Call, Outcome};
-use crate::codes::{Codes, HIGH, LOW_WORD};
-use crate::conflict;
+use crate::codes::{self, Codes, CODES, HIGH, LOW_WORD};
 use crate::file::{self, MOST_CODE};
 use crate::stream::{letter, LETTERS};
 use crate::tree::Tree;
-use std::rc::Rc;
 
 /// Large sets must have each outcome this often, middling ones once; small
 /// sets are free.
@@ -35,6 +32,8 @@ const FILES: [&str; 4] = ["low codes", "a high code", "the highest", "one too hi
 const EVENTS: [&str; 2] = ["the highest taken", "one too high not taken"];
 /// What a set has codes in.
 const WORDS: [&str; 4] = ["no word", "the low word", "the high word", "both words"];
+/// How many codes a conflict shares.
+const COUNTS: [&str; 3] = ["one code", "several", "every code"];
 
 /// The counts of one set of cases.
 #[derive(Default)]
@@ -46,6 +45,10 @@ pub struct Coverage {
     verdicts: [usize; 3],
     checks: [usize; 2],
     kinds: [usize; 4],
+    /// Conflicts that share more than one code, by their kinds.
+    more: [usize; 4],
+    /// Conflicts by how many codes they share, as in `COUNTS`.
+    counts: [usize; 3],
     /// The files of each call by their codes, as in `FILES`.
     files: [[usize; 4]; 5],
     /// Follow's events and Write's runs, as in `EVENTS`.
@@ -61,12 +64,6 @@ pub struct Coverage {
 /// The words that a set has codes in, by its place in `WORDS`.
 fn words(set: Codes) -> usize {
     usize::from(set & LOW_WORD != 0) + 2 * usize::from(set & !LOW_WORD != 0)
-}
-
-/// The codes that the lowest conflict of a file shares.
-fn shared(tree: Tree) -> Codes {
-    let automaton = Automaton::new(Rc::new(tree));
-    conflict::lowest(&automaton.tree, &automaton).map_or(0, |conflict| conflict.shared)
 }
 
 /// Whether the node's record is an event one code past the limit.
@@ -91,7 +88,6 @@ impl Coverage {
         self.add_events(call, outcome);
         match file::read(call.file()) {
             Ok(tree) if answer == 0 || answer > 7 => self.add_admitted(row, &tree),
-            Ok(tree) if letter(call) == 'J' => self.shared[words(shared(tree))] += 1,
             Ok(_) => {}
             Err(refusal) => {
                 let too_high = answer == 4 && is_too_high(call.file(), refusal.node);
@@ -103,8 +99,11 @@ impl Coverage {
     fn add_outcome(&mut self, outcome: &Outcome) {
         match *outcome {
             Outcome::Judge {
-                answer: 7, kind, ..
-            } => self.kinds[kind as usize - 1] += 1,
+                answer: 7,
+                kind,
+                shared,
+                ..
+            } => self.add_conflict(kind as usize - 1, shared),
             Outcome::Follow {
                 answer: 0, verdict, ..
             } => self.verdicts[verdict as usize] += 1,
@@ -112,6 +111,14 @@ impl Coverage {
             Outcome::Prompt { answer: 0, set } => self.prompts[words(set)] += 1,
             _ => {}
         }
+    }
+
+    fn add_conflict(&mut self, kind: usize, shared: Codes) {
+        let count = codes::count(shared);
+        self.kinds[kind] += 1;
+        self.more[kind] += usize::from(count > 1);
+        self.counts[usize::from(count > 1) + usize::from(count == CODES)] += 1;
+        self.shared[words(shared)] += 1;
     }
 
     fn add_events(&mut self, call: &Call, outcome: &Outcome) {
@@ -164,7 +171,9 @@ impl Coverage {
         rows.push(Row::of('W', "runs", &EVENTS, &self.runs));
         rows.push(Row::of('C', "checks", &CHECKS, &self.checks));
         rows.push(Row::of('J', "conflicts", &KINDS, &self.kinds));
-        rows.push(Row::of('J', "shared", &WORDS[1..], &self.shared[1..]));
+        rows.push(Row::of('J', "shared", &COUNTS, &self.counts));
+        rows.push(Row::of('J', "more than one", &KINDS, &self.more));
+        rows.push(Row::of('J', "shared in", &WORDS[1..], &self.shared[1..]));
         rows.push(Row::of('P', "prompts", &WORDS, &self.prompts));
         rows.retain(|row| self.calls.contains(row.letter));
         rows
@@ -318,6 +327,42 @@ mod tests {
         assert!(lacks(&gaps(129), "Judge's files one too high"));
     }
 
+    fn judge(text: &str) -> Vec<String> {
+        lacking(Call::Judge {
+            file: file_of(text),
+        })
+    }
+
+    #[test]
+    fn each_number_of_shared_codes_is_asked_for() {
+        for (text, found) in [
+            ("#64+#64", "one code"),
+            ("#63-64+#63-64", "several"),
+            ("#0-126+#0-126", "several"),
+            ("#0-127+#0-127", "every code"),
+        ] {
+            let gaps = judge(text);
+            for count in super::COUNTS {
+                let asked = format!("shared {count}");
+                assert_eq!(lacks(&gaps, &asked), count != found, "{text} {count}");
+            }
+        }
+    }
+
+    #[test]
+    fn more_than_one_shared_code_of_each_kind_is_asked_for() {
+        let texts = ["#_+#_", "#_{0,1}#_", "#_{1,2}#_", "(#_{1,2}){3,4}"];
+        for (text, found) in texts.into_iter().zip(super::KINDS) {
+            let with_one = judge(&text.replace('_', "5"));
+            let with_two = judge(&text.replace('_', "5-6"));
+            for kind in super::KINDS {
+                let asked = format!("more than one {kind}");
+                assert!(lacks(&with_one, &asked), "{text} {kind}");
+                assert_eq!(lacks(&with_two, &asked), kind != found, "{text} {kind}");
+            }
+        }
+    }
+
     #[test]
     fn shared_codes_of_each_word_are_asked_for() {
         for (text, found) in [
@@ -325,11 +370,9 @@ mod tests {
             ("#64+#64", "the high word"),
             ("(#64+#0)+(#0+#64)", "both words"),
         ] {
-            let gaps = lacking(Call::Judge {
-                file: file_of(text),
-            });
+            let gaps = judge(text);
             for words in &super::WORDS[1..] {
-                let asked = format!("shared {words}");
+                let asked = format!("shared in {words}");
                 assert_eq!(lacks(&gaps, &asked), *words != found, "{text} {words}");
             }
         }

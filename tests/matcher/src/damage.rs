@@ -6,7 +6,7 @@ use crate::file::{self, MOST_CODE, MOST_FILE, MOST_NODES, MOST_TEXT, RECORD, TRA
 use crate::grow;
 use crate::palette::BEYOND;
 use crate::random::Random;
-use crate::tree::{Bounds, Node, Symbol, Tree};
+use crate::tree::{Node, Symbol, Tree, ENDLESS};
 
 /// A text for a file, mostly short.
 fn text(random: &mut Random) -> Vec<u8> {
@@ -237,17 +237,7 @@ fn with_missing_parts(random: &mut Random, tree: &Tree) -> Vec<u8> {
     let place = random.below(symbols.len());
     match random.below(3) {
         0 => symbols.insert(place, Symbol::Event(1)),
-        1 => symbols.insert(
-            0,
-            random.pick(&[
-                Symbol::Choice,
-                Symbol::Sequence,
-                Symbol::Repeat(Bounds {
-                    lower: 0,
-                    upper: None,
-                }),
-            ]),
-        ),
+        1 => symbols.insert(0, random.pick(&[Symbol::Choice, Symbol::Sequence, ENDLESS])),
         _ if symbols.len() > 1 => {
             symbols.remove(place);
         }

@@ -4,7 +4,7 @@ use crate::calls::Procedure;
 use crate::codes::{CODES, WORD};
 use crate::palette;
 use crate::random::Random;
-use crate::tree::{Bounds, Symbol, Tree};
+use crate::tree::{Bounds, Symbol, Tree, OPTIONAL};
 
 /// How the leaves of a tree lie.
 #[derive(Clone, Copy, Debug, PartialEq, Eq)]
@@ -278,11 +278,7 @@ fn hollow(random: &mut Random) -> Tree {
             symbols.push(Symbol::Choice);
         }
     }
-    let optional = Symbol::Repeat(Bounds {
-        lower: 0,
-        upper: Some(1),
-    });
-    symbols.extend(random.pick(&[vec![Symbol::Empty, Symbol::Choice], vec![optional]]));
+    symbols.extend(random.pick(&[vec![Symbol::Empty, Symbol::Choice], vec![OPTIONAL]]));
     let lower = random.pick(&[1, 2, 2, 3, 3, 4_096]);
     let upper = random.pick(&[None, None, Some(lower), Some(4_096)]);
     symbols.push(Symbol::Repeat(Bounds { lower, upper }));

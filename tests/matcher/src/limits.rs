@@ -2,7 +2,7 @@
 
 use crate::codes::{CODES, HIGH};
 use crate::file::{self, MOST_CODE, MOST_TEXT, TRAILER};
-use crate::tree::{Bounds, Symbol};
+use crate::tree::{Bounds, Symbol, ENDLESS};
 
 /// How many files `file` tells apart. It has no common divisor with the numbers
 /// of calls, runs and records that take turns with them.
@@ -66,10 +66,7 @@ fn chain(nodes: usize) -> Vec<Symbol> {
         symbols.extend([Symbol::Event((place % CODES) as u8), Symbol::Sequence]);
     }
     if nodes % 2 == 0 {
-        symbols.push(Symbol::Repeat(Bounds {
-            lower: 0,
-            upper: None,
-        }));
+        symbols.push(ENDLESS);
     }
     symbols
 }
@@ -180,6 +177,7 @@ mod tests {
             node: 96,
             kind: 0,
             code: 0,
+            shared: 0,
         };
         assert_eq!(judge(&file(32)), refused);
     }

@@ -1,6 +1,7 @@
-//! The mirror of the notation: trees of text.
+//! The mirror of the notation: trees of text. `#40-70` is short for the choice
+//! of these codes, in brackets.
 
-use crate::tree::{Bounds, Symbol, Tree};
+use crate::tree::{choice_of, Bounds, Symbol, Tree};
 
 /// The tree of a notation.
 ///
@@ -79,11 +80,23 @@ impl Parser {
             }
             'e' => self.symbols.push(Symbol::Empty),
             '#' => {
-                let code = self.number().expect("a code");
-                self.symbols.push(Symbol::Event(code as u8));
+                let (lowest, highest) = self.codes();
+                self.symbols.extend(choice_of(lowest..=highest));
             }
             letter => self.symbols.push(Symbol::Event(letter as u8 - b'a')),
         }
+    }
+
+    /// The lowest and the highest of the codes; a single one is both.
+    fn codes(&mut self) -> (u8, u8) {
+        let lowest = self.number().expect("a code");
+        let mut highest = lowest;
+        if self.peek() == Some('-') {
+            self.at += 1;
+            highest = self.number().expect("a code");
+        }
+        assert!(lowest <= highest, "codes rise");
+        (lowest as u8, highest as u8)
     }
 
     fn number(&mut self) -> Option<u32> {
@@ -116,6 +129,18 @@ mod tests {
             let once = tree(text);
             assert_eq!(once.symbols(), tree(&show(&once)).symbols(), "{text}");
         }
+    }
+
+    #[test]
+    fn codes_in_a_row_are_a_choice_in_brackets() {
+        for (short, long) in [
+            ("#3-3", "#3"),
+            ("#62-64", "(#62+#63+#64)"),
+            ("#1-2{0,1}#7-8", "(#1+#2){0,1}(#7+#8)"),
+        ] {
+            assert_eq!(tree(short).symbols(), tree(long).symbols(), "{short}");
+        }
+        assert_eq!(tree("#0-127").len(), 255);
     }
 
     #[test]

@@ -1,7 +1,7 @@
 //! Calls as a stream of bytes, and what they give as lines of text.
 
 use crate::calls::{Call, Outcome};
-use crate::codes::{HIGH, LOW_WORD};
+use crate::codes::{self, Codes, HIGH, LOW_WORD};
 use std::fmt::Write as _;
 
 /// The longest slice that a stream may hold.
@@ -50,7 +50,11 @@ pub fn line(outcome: &Outcome) -> String {
             node,
             kind,
             code,
-        } => format!("J {answer} {node} {kind} {code}\n"),
+            shared,
+        } => {
+            let (set, count) = (words(*shared), codes::count(*shared));
+            format!("J {answer} {node} {kind} {code} {set} {count}\n")
+        }
         Outcome::Follow {
             answer,
             taken,
@@ -65,10 +69,13 @@ pub fn line(outcome: &Outcome) -> String {
             space,
         } => format!("W {answer} {length} {}\n", hex(space)),
         Outcome::Check { answer, yes } => format!("C {answer} {yes}\n"),
-        Outcome::Prompt { answer, set } => {
-            format!("P {answer} {} {}\n", set & LOW_WORD, set >> HIGH)
-        }
+        Outcome::Prompt { answer, set } => format!("P {answer} {}\n", words(*set)),
     }
+}
+
+/// The low word of a set and its high one.
+fn words(set: Codes) -> String {
+    format!("{} {}", set & LOW_WORD, set >> HIGH)
 }
 
 fn hex(bytes: &[u8]) -> String {
@@ -84,7 +91,9 @@ fn hex(bytes: &[u8]) -> String {
 /// What each field of a line tells.
 pub fn field_names(letter: &str) -> &'static [&'static str] {
     match letter {
-        "J" => &["call", "answer", "node", "kind", "code"],
+        "J" => &[
+            "call", "answer", "node", "kind", "code", "low", "high", "count",
+        ],
         "F" => &["call", "answer", "taken", "verdict", "state"],
         "W" => &["call", "answer", "length", "space"],
         "C" => &["call", "answer", "yes"],
@@ -119,8 +128,9 @@ mod tests {
             node: 2,
             kind: 4,
             code: 0,
+            shared: 1,
         };
-        assert_eq!(line(&judged), "J 7 2 4 0\n");
+        assert_eq!(line(&judged), "J 7 2 4 0 1 0 1\n");
         let written = Outcome::Write {
             answer: 0,
             length: 1,
@@ -134,6 +144,27 @@ mod tests {
             state: vec![],
         };
         assert_eq!(line(&refused), "F 8 0 0 -\n");
+    }
+
+    #[test]
+    fn shared_codes_are_told_by_two_words_and_their_number() {
+        let told = |code: u8, shared: Codes| {
+            line(&Outcome::Judge {
+                answer: 7,
+                node: 6,
+                kind: 1,
+                code,
+                shared,
+            })
+        };
+        assert_eq!(
+            told(63, one(63) | one(64)),
+            "J 7 6 1 63 9223372036854775808 1 2\n"
+        );
+        assert_eq!(
+            told(0, !0),
+            "J 7 6 1 0 18446744073709551615 18446744073709551615 128\n"
+        );
     }
 
     #[test]

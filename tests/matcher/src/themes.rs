@@ -13,6 +13,7 @@ pub enum Theme {
     JudgeSmall,
     JudgeAdmitted,
     JudgeConflicted,
+    JudgeShared,
     JudgeLarge,
     JudgeRepeats,
     FollowRefused,
@@ -50,7 +51,7 @@ impl Theme {
         match self {
             T::Bench | T::Field | T::Limit | T::Edges => LETTERS,
             T::JudgeRefused | T::JudgeSmall | T::JudgeAdmitted => "J",
-            T::JudgeConflicted | T::JudgeLarge | T::JudgeRepeats => "J",
+            T::JudgeConflicted | T::JudgeShared | T::JudgeLarge | T::JudgeRepeats => "J",
             T::FollowRefused | T::FollowWrongState | T::FollowNested | T::FollowBroken => "F",
             T::FollowAdmitted | T::FollowLarge | T::FollowRepeats | T::FollowLong => "F",
             T::WriteRefused | T::WriteNested | T::WriteBroken | T::WriteAdmitted => "W",
@@ -63,7 +64,7 @@ impl Theme {
 }
 
 /// How many cases of each theme a round has.
-pub const ROUND: [(Theme, usize); 35] = [
+pub const ROUND: [(Theme, usize); 36] = [
     (T::JudgeRefused, 12),
     (T::Bench, 20),
     (T::Field, 14),
@@ -72,6 +73,7 @@ pub const ROUND: [(Theme, usize); 35] = [
     (T::JudgeSmall, 10),
     (T::JudgeAdmitted, 6),
     (T::JudgeConflicted, 8),
+    (T::JudgeShared, 12),
     (T::JudgeLarge, 4),
     (T::JudgeRepeats, 3),
     (T::FollowRefused, 7),

@@ -36,6 +36,29 @@ pub enum Symbol {
     Repeat(Bounds),
 }
 
+/// A repeat of no block or one.
+pub const OPTIONAL: Symbol = Symbol::Repeat(Bounds {
+    lower: 0,
+    upper: Some(1),
+});
+
+/// A repeat of any number of blocks.
+pub const ENDLESS: Symbol = Symbol::Repeat(Bounds {
+    lower: 0,
+    upper: None,
+});
+
+/// A choice of events, in postfix order, grouped to the left.
+pub fn choice_of(codes: impl IntoIterator<Item = u8>) -> Vec<Symbol> {
+    let mut symbols = Vec::new();
+    for code in codes {
+        let joins = !symbols.is_empty();
+        symbols.push(Symbol::Event(code));
+        symbols.extend(joins.then_some(Symbol::Choice));
+    }
+    symbols
+}
+
 /// A whole procedure with what is asked of it often.
 #[derive(Clone, Debug)]
 pub struct Tree {

@@ -229,7 +229,7 @@ impl<'t> Words<'t> {
         let mut open = vec![vec![self.whole(part)]];
         while let Some(rests) = open.pop() {
             let next = self.codes_next(&rests);
-            for code in codes::all().filter(|&code| codes::has(next, code)) {
+            for code in codes::of(next) {
                 let derived = self.derive_all(&rests, code);
                 if !seen.insert(derived.clone()) {
                     continue;

@@ -53,14 +53,26 @@ lowest-conflict-requires c κs =
 lowest-requires : tie.Need-lowest-requires
 lowest-requires c κs = search needs
 
+low-requires : tie.Need-low-requires
+low-requires c κs = search needs
+
+high-requires : tie.Need-high-requires
+high-requires c κs = search needs
+
+count-requires : tie.Need-count-requires
+count-requires c κs = search needs
+
 returns : tie.Need-returns
 returns c =
-    let looked = c .before in
+    let low = c .before .before in
+    let some = low .before in
+    let looked = some .before in
     let found = looked .before .before in
     let n = found .before .before .before .before .before in
     let read = n .before .before in
     admits-not (file read) (nodes read) (starts read) (nulls read) (repeats read) (read .read .result) _ _ (read .read .ensures) (n .n .given .1)
-    (found .lowest-conflict .result) (looked .lowest .result) (found .lowest-conflict .ensures .1) (looked .lowest .ensures) (c .if1 .taken)
+    (found .lowest-conflict .result) (looked .lowest .result) (found .lowest-conflict .ensures .1) (looked .lowest .ensures) _ _ _ (some .if1 .taken)
+    (low .low .ensures) (c .before .high .ensures) (c .count .ensures)
 
 returns-2 : tie.Need-returns-2
 returns-2 c =
@@ -85,6 +97,9 @@ admit-spec =
     enum-known-n
     lowest-conflict-requires
     lowest-requires
+    low-requires
+    high-requires
+    count-requires
     returns
     returns-2
     returns-3)

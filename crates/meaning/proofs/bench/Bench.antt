@@ -9,7 +9,7 @@ use Rattle.meaning.specs.declared.Verdict.the-variants.{Complete, Unfini
 use Rattle.meaning.specs.Expr.{Expr, empty, event, choice, sequence, repeat, upto, endless, Bounded}
 use Rattle.meaning.specs.Reading.{Item, Reading, codes}
 use Rattle.meaning.specs.Strong.{StronglyDeterministic}
-use Rattle.meaning.specs.Conflict.{LowestConflict}
+use Rattle.meaning.specs.Conflict.{LowestConflict, SharedCodes}
 use Rattle.meaning.specs.State.{State, Reaches}
 use Rattle.meaning.specs.Record.{itemNumber}
 use Rattle.meaning.specs.Promises.{Takes, VerdictOf}
@@ -17,6 +17,7 @@ use Rattle.meaning.proofs.deciding.Listed.{some}
 use Rattle.meaning.proofs.deciding.Answer.{Answer, found, unknown, if-so, then, next, both, equal, every}
 use Rattle.meaning.proofs.deciding.Bounds.{bounded}
 use Rattle.meaning.proofs.deciding.ConflictList.{no-conflict, lowest}
+use Rattle.meaning.proofs.deciding.SharedSet.{shared-codes}
 use Rattle.meaning.proofs.determinism.Unique.{free-iff-no-conflict, free-strong}
 use Rattle.meaning.proofs.deciding.Search.{reading-list, state-list}
 use Rattle.meaning.proofs.deciding.Followed.{follows, never}
@@ -25,8 +26,8 @@ use Rattle.meaning.proofs.deciding.Followed.{follows, never}
 pub data Claim : Type 0 where
   -- it is admitted
   admitted : Claim
-  -- it is refused: node, kind, code
-  refused : ℕ → ℕ → ℕ → Claim
+  -- it is refused: node, kind, code, the two words of the set of shared codes, and how many they are
+  refused : ℕ → ℕ → ℕ → ℕ → ℕ → ℕ → Claim
   -- a run, how many of its events are taken, and the verdict
   run : List ℕ → ℕ → Verdict → Claim
   -- any event is broken, 0 taken
@@ -39,7 +40,7 @@ pub data Claim : Type 0 where
 -- what the claim says
 abbrev pub Says : Expr → Claim → Type 0
 Says e admitted = StronglyDeterministic e
-Says e (refused i k c) = LowestConflict e i k c
+Says e (refused i k c low high n) = LowestConflict e i k c × SharedCodes e i k low high n
 Says e (run u t v) = Takes e [] u t × VerdictOf e [] u t v
 Says e no-event = (c : ℕ) → Takes e [] (c ∷ []) 0 × VerdictOf e [] (c ∷ []) 0 Broken
 Says e (recorded u numbers) =
@@ -131,30 +132,38 @@ counted = repeat (event a) 3 endless
 abbrev once : Expr
 once = repeat (repeat (event a) 1 (upto 2)) 0 (upto 1)
 
+-- (e5 e1{0,1}){0,1}(e5+e1)
+abbrev two-kinds : Expr
+two-kinds = sequence (repeat (sequence (event 5) (repeat (event 1) 0 (upto 1))) 0 (upto 1)) (choice (event 5) (event 1))
+
+-- (e63+e64)+(e63+e64)
+abbrev both-words : Expr
+both-words = choice (choice (event 63) (event 64)) (choice (event 63) (event 64))
+
 abbrev pub table : List Case
 table =
     -- B1: a unfinished; aa complete; aaaaa broken, 4 taken
     case b1 (admitted ∷ run (a ∷ []) 1 Unfinished ∷ run (a ∷ a ∷ []) 2 Complete ∷ run (a ∷ a ∷ a ∷ a ∷ a ∷ []) 4 Broken ∷ [])
     -- B2: admitted; aaa complete; aaaa broken, 3 taken
     ∷ case b2 (admitted ∷ run (a ∷ a ∷ a ∷ []) 3 Complete ∷ run (a ∷ a ∷ a ∷ a ∷ []) 3 Broken ∷ [])
-    -- B3: 7, node 2, kind 4, code 0
-    ∷ case b3 (refused 2 4 0 ∷ [])
-    -- B4: 7, node 7, kind 4, code 1
-    ∷ case b4 (refused 7 4 1 ∷ [])
+    -- B3: 7, node 2, kind 4, code 0, and no other code
+    ∷ case b3 (refused 2 4 0 1 0 1 ∷ [])
+    -- B4: 7, node 7, kind 4, code 1, and no other code
+    ∷ case b4 (refused 7 4 1 2 0 1 ∷ [])
     -- B5: admitted; the record of aaa is 4097, 0, 8193, 4097, 0, 8193, 2
     ∷ case b5 (admitted ∷ recorded (a ∷ a ∷ a ∷ []) (4097 ∷ 0 ∷ 8193 ∷ 4097 ∷ 0 ∷ 8193 ∷ 2 ∷ []) ∷ [])
-    -- B6: 7, node 3, kind 2, code 0
-    ∷ case b6 (refused 3 2 0 ∷ [])
-    -- B7: 7, node 3, kind 3, code 0
-    ∷ case b7 (refused 3 3 0 ∷ [])
-    -- B8: 7, node 6, kind 4, code 0
-    ∷ case b8 (refused 6 4 0 ∷ [])
+    -- B6: 7, node 3, kind 2, code 0, and no other code
+    ∷ case b6 (refused 3 2 0 1 0 1 ∷ [])
+    -- B7: 7, node 3, kind 3, code 0, and no other code
+    ∷ case b7 (refused 3 3 0 1 0 1 ∷ [])
+    -- B8: 7, node 6, kind 4, code 0, and no other code
+    ∷ case b8 (refused 6 4 0 1 0 1 ∷ [])
     -- B9: admitted; bb complete
     ∷ case b9 (admitted ∷ run (b ∷ b ∷ []) 2 Complete ∷ [])
     -- B10: admitted; the empty run complete; record of a is 4099, 0, 8195
     ∷ case b10 (admitted ∷ run [] 0 Complete ∷ recorded (a ∷ []) (4099 ∷ 0 ∷ 8195 ∷ []) ∷ [])
-    -- B11: 7, node 4, kind 1, code 0
-    ∷ case b11 (refused 4 1 0 ∷ [])
+    -- B11: 7, node 4, kind 1, code 0, and no other code
+    ∷ case b11 (refused 4 1 0 1 0 1 ∷ [])
     -- B12: record of abab is 4099, 0, 1, 8195, 4099, 0, 1, 8195
     ∷ case b12 (admitted ∷ recorded (a ∷ b ∷ a ∷ b ∷ []) (4099 ∷ 0 ∷ 1 ∷ 8195 ∷ 4099 ∷ 0 ∷ 1 ∷ 8195 ∷ []) ∷ [])
     -- B13: empty run complete with an empty record; any event broken, 0 taken
@@ -166,6 +175,10 @@ table =
     ∷ case b14 (state (a ∷ a ∷ a ∷ a ∷ a ∷ []) 1 (1 ∷ 1 ∷ []) ∷ [])
     -- our own: a body that goes on as it begins is no conflict under an upper bound of 1
     ∷ case once (admitted ∷ [])
+    -- our own: what kind 3 shares at the node, code 1, is not in the set of kind 2
+    ∷ case two-kinds (refused 8 2 5 32 0 1 ∷ [])
+    -- our own: two codes, one in each word
+    ∷ case both-words (refused 6 1 63 9223372036854775808 1 2 ∷ [])
     ∷ []
 
 -- the record of a run is the one claimed
@@ -191,9 +204,9 @@ state-is e h u n counts =
 
 -- a claim is found by computing
 unfoldable pub decide : (e : Expr) (k : Claim) → Answer (Says e k)
-unfolding then next bounded no-conflict lowest follows never record-is state-is
+unfolding then next both bounded no-conflict lowest shared-codes follows never record-is state-is
 decide e admitted = next (bounded e) (λ h. then (λ n. free-strong e h (free-iff-no-conflict 0 e .1 n)) (no-conflict e))
-decide e (refused i k c) = lowest e i k c
+decide e (refused i k c low high n) = both (lowest e i k c) (shared-codes e i k low high n)
 decide e (run u t v) = next (bounded e) (λ h. follows e h u t v)
 decide e no-event = next (bounded e) (never e)
 decide e (recorded u numbers) = next (bounded e) (λ h. record-is e h u numbers)

@@ -103,7 +103,7 @@ part-list l m =
     (λ w h. ⊎-elim (λ k. inl (h .0, k, h .2)) (λ k. inr (h .0, k, h .2)) (h .1))
 
 -- all conflicts, as a list
-pub conflict-list : (s : ℕ) (e : Expr) → Listed (λ (w : Named). ConflictAt s e (w .0) (w .1) (w .2))
+unfoldable pub conflict-list : (s : ℕ) (e : Expr) → Listed (λ (w : Named). ConflictAt s e (w .0) (w .1) (w .2))
 unfolding own-list part-list
 conflict-list s empty = own-list s empty
 conflict-list s (event d) = own-list s (event d)
@@ -117,7 +117,7 @@ unfolding then every conflict-list
 no-conflict e = then (λ h i k c. h (i, k, c)) (every {Q = λ w. ⊥} (conflict-list 0 e) (λ w. unknown))
 
 -- numbers that name a conflict can be told apart
-named-discrete : Discrete Named
+unfoldable pub named-discrete : Discrete Named
 unfolding decided Dec·and ℕ-discrete
 named-discrete v w =
     let alike = Dec·and (ℕ-discrete (v .0) (w .0)) (Dec·and (ℕ-discrete (v .1) (w .1)) (ℕ-discrete (v .2) (w .2))) in
@@ -141,10 +141,9 @@ pub lowest-of : (e : Expr) (i k c : ℕ) → ConflictAt 0 e i k c → ((w : Name
     → LowestConflict e i k c
 lowest-of e i k c h n =
     record {
-      there = h;
-      lowest-node = λ j l d a. n (j, l, d) a .0;
-      lowest-kind = λ l d a. n (i, l, d) a .1 refl;
-      lowest-code = λ d a. n (i, k, d) a .2 refl refl;
+      node = record { holds = (k, c, h); lowest = λ j a. n (j, a .0, a .1) (a .2) .0 };
+      kind = record { holds = (c, h); lowest = λ l a. n (i, l, a .0) (a .1) .1 refl };
+      code = record { holds = h; lowest = λ d a. n (i, k, d) a .2 refl refl };
     }
 
 -- the conflict named is the lowest

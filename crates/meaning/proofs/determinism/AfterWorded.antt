@@ -130,7 +130,7 @@ below-lowest-free e i k c lowest j p w l = free-iff-no-conflict (t .start) p .1 
     none-here : (m n o : ℕ) → ¬ ConflictAt (t .start) p m n o
     none-here m n o f =
         let x = t .up-to m (f .0) (f .1) in
-        let y = lowest .lowest-node m n o (f .0, t .parts m (f .0) (f .1), f .2) in
+        let y = lowest .node .lowest m (n, o, (f .0, t .parts m (f .0) (f .1), f .2)) in
         omega arith
 
 -- so its first and after are as worded

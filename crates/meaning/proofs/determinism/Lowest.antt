@@ -1,13 +1,16 @@
 -- Where there is a conflict there is exactly one lowest; there is one exactly if the expression is not strongly deterministic.
-use mathlib.Core.Path.{_≡_, refl, sym, subst}
+use mathlib.Core.Path.{_≡_, refl, sym, subst, subst₂}
 use mathlib.Core.Logic.{_↔_}
-use Prim.Native.Nat.{ℕ}
-use native.Mathlib.Nat.{le-antisymm}
+use Prim.Native.Nat.{ℕ, _+_}
 use native.Mathlib.Omega.{arith}
 use native.Mathlib.Decide.{ℕ-discrete}
 use Rattle.meaning.specs.Expr.{Expr, Bounded}
 use Rattle.meaning.specs.Strong.{StronglyDeterministic}
-use Rattle.meaning.specs.Conflict.{ConflictAt, LowestConflict}
+use Rattle.meaning.specs.Conflict.{ConflictAt, LowestConflict, SharedCodes}
+use Rattle.meaning.specs.Codes.{Has, inWords, mostCode}
+use Rattle.meaning.specs.Properties.{CountBelow}
+use Rattle.meaning.proofs.general.CodeSets.{set-unique}
+use Rattle.meaning.proofs.general.Properties.{count-unique, least-unique}
 use Rattle.meaning.proofs.deciding.Listed.{kept, some, least}
 use Rattle.meaning.proofs.deciding.ConflictList.{Named, conflict-list}
 use Rattle.meaning.proofs.determinism.Diverge.{strong-no-conflict, strong-iff-no-conflict}
@@ -27,25 +30,32 @@ conflict-lowest e i k c f =
       m .0 .1,
       m .0 .2,
       record {
-        there = m .1 .0 .0;
-        lowest-node = λ j l d g. omega (arith, node, a .2 (j, l, d) g);
-        lowest-kind = λ l d g. omega (arith, kind, b .2 (m .0 .0, l, d) (g, node));
-        lowest-code = λ d g. m .2 (m .0 .0, m .0 .1, d) ((g, node), kind);
+        node = record { holds = (m .0 .1, m .0 .2, m .1 .0 .0); lowest = λ j g. omega (arith, node, a .2 (j, g .0, g .1) (g .2)) };
+        kind = record { holds = (m .0 .2, m .1 .0 .0); lowest = λ l g. omega (arith, kind, b .2 (m .0 .0, l, g .0) (g .1, node)) };
+        code = record { holds = m .1 .0 .0; lowest = λ d g. m .2 (m .0 .0, m .0 .1, d) ((g, node), kind) };
       },
     )
 
 -- and only one
 pub lowest-unique : (e : Expr) (i k c j l d : ℕ) → LowestConflict e i k c → LowestConflict e j l d → (i ≡ j) × (k ≡ l) × (c ≡ d)
 lowest-unique e i k c j l d x y =
-    let p : i ≡ j = le-antisymm (x .lowest-node j l d (y .there)) (y .lowest-node i k c (x .there)) in
+    let p : i ≡ j = least-unique (x .node) (y .node) in
     let y₁ = subst (λ j. LowestConflict e j l d) (sym p) y in
-    let q : k ≡ l = le-antisymm (x .lowest-kind l d (y₁ .there)) (y₁ .lowest-kind k c (x .there)) in
+    let q : k ≡ l = least-unique (x .kind) (y₁ .kind) in
     let y₂ = subst (λ l. LowestConflict e i l d) (sym q) y₁ in
-    (p, q, le-antisymm (x .lowest-code d (y₂ .there)) (y₂ .lowest-code c (x .there)))
+    (p, q, least-unique (x .code) (y₂ .code))
+
+-- the codes that it shares are one set, of which there are so many
+pub shared-unique : {e : Expr} {i k low high n low′ high′ n′ : ℕ} → SharedCodes e i k low high n → SharedCodes e i k low′ high′ n′
+    → (low ≡ low′) × (high ≡ high′) × (n ≡ n′)
+shared-unique {low = low} {high} {n} {low′} {high′} {n′} x y =
+    let words = set-unique (x .set) (y .set) in
+    let count = subst₂ (λ (l h : ℕ). CountBelow (Has (inWords l h)) (mostCode + 1) n) (words .0) (words .1) (x .count) in
+    (words .0, words .1, count-unique count (y .count))
 
 -- there is one exactly if the expression is not strongly deterministic
 pub lowest-iff-not-strong : (e : Expr) → Bounded e → ((i k c : ℕ) × LowestConflict e i k c) ↔ ¬ StronglyDeterministic e
-lowest-iff-not-strong e h = (λ x s. strong-no-conflict e h s (x .0) (x .1) (x .2) (x .3 .there), λ n. found n (some (conflict-list 0 e)))
+lowest-iff-not-strong e h = (λ x s. strong-no-conflict e h s (x .0) (x .1) (x .2) (x .3 .code .holds), λ n. found n (some (conflict-list 0 e)))
   where
     found : ¬ StronglyDeterministic e → Dec ((w : Named) × ConflictAt 0 e (w .0) (w .1) (w .2)) → (i k c : ℕ) × LowestConflict e i k c
     found n (yes f) = conflict-lowest e (f .0 .0) (f .0 .1) (f .0 .2) (f .1)

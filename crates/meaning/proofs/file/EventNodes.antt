@@ -11,10 +11,12 @@ use Rattle.meaning.specs.Word.{Word, Begins}
 use Rattle.meaning.specs.Reading.{Item, place, opening, closing, codes}
 use Rattle.meaning.specs.Node.{Node, node, InTable, InTableTo, empty-line, event-line, choice-line, sequence-line, repeat-line, Stands}
 use Rattle.meaning.specs.File.{Holds, nodeAt}
+use Rattle.meaning.specs.Sets.{First}
+use Rattle.meaning.specs.Conflict.{Conflict, ConflictAt}
 use Rattle.meaning.specs.theory.Places.{Place}
 use Rattle.meaning.specs.theory.Spots.{Spot}
 use Rattle.meaning.specs.theory.Runs.{LeadsTo, NoWay}
-use Rattle.meaning.proofs.expressions.Parts.{part-within}
+use Rattle.meaning.proofs.expressions.Parts.{part-of-part, part-within}
 use Rattle.meaning.proofs.places.Directly.{IsEvent}
 use Rattle.meaning.proofs.expressions.Records.{AllName, reading-names}
 use Rattle.meaning.proofs.expressions.WordReading.{word-iff-reading}
@@ -107,6 +109,31 @@ pub word-code : (e : Expr) → Bounded e → (u v : List ℕ) (c : ℕ) → Word
 word-code e h u v c w =
     let x = word-iff-reading 0 e h _ .0 w in
     code-named e (x .0) u v c (reading-names 0 e (x .0) (x .1)) (x .2)
+
+-- so is each code that begins a part
+first-code : (s : ℕ) (e : Expr) (c : ℕ) → First e c → (q : ℕ) × Part s e q (event c)
+first-code s empty c f = absurd f
+first-code s (event d) c f = (s, (refl, ap event f))
+first-code s (choice l r) c (inl f) = let t = first-code s l c f in (t .0, inl (t .1))
+first-code s (choice l r) c (inr f) = let t = first-code (s + size l) r c f in (t .0, inr (inl (t .1)))
+first-code s (sequence l r) c (inl f) = let t = first-code s l c f in (t .0, inl (t .1))
+first-code s (sequence l r) c (inr f) = let t = first-code (s + size l) r c (f .1) in (t .0, inr (inl (t .1)))
+first-code s (repeat b lower upper) c f = let t = first-code s b c f in (t .0, inl (t .1))
+
+own-code : (s : ℕ) (p : Expr) (k c : ℕ) → Conflict p k c → (q : ℕ) × Part s p q (event c)
+own-code s empty k c f = absurd f
+own-code s (event d) k c f = absurd f
+own-code s (choice l r) k c f = first-code s (choice l r) c (inl (f .1))
+own-code s (sequence l r) k c (inl f) = first-code s (sequence l r) c (inl (f .2))
+own-code s (sequence l r) k c (inr f) = let t = first-code (s + size l) r c (f .2) in (t .0, inr (inl (t .1)))
+own-code s (repeat b lower upper) k c f = first-code s (repeat b lower upper) c (f .3)
+
+-- and each shared code of a conflict
+pub conflict-code : (e : Expr) (i k c : ℕ) → ConflictAt 0 e i k c → (q : ℕ) × Part 0 e q (event c)
+conflict-code e i k c f =
+    let inner = part-of-part 0 e i (f .0) (f .1) in
+    let t = own-code (inner .start) (f .0) k c (f .2) in
+    (t .0, inner .parts (t .0) (event c) (t .1))
 
 -- a code above 127 is in no word
 pub above-in-no-word : (f : List ℕ) (e : Expr) (u v : List ℕ) (c : ℕ) → Holds f e → mostCode < c → ¬ Word e (u ++ (c ∷ v))

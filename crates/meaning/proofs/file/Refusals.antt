@@ -1,5 +1,5 @@
 -- A file is refused in one way, or lists one expression and is not refused.
-use mathlib.Core.Path.{_≡_, refl, sym, ap₂, _∙_, subst}
+use mathlib.Core.Path.{_≡_, refl, sym, ap₂, _∙_, subst, subst₃}
 use mathlib.Core.List.{List}
 use Prim.Native.Nat.{ℕ, zero, suc, _+_, _-_, _≤_, _<_, zero-le}
 use native.Mathlib.Omega.{arith}
@@ -9,13 +9,13 @@ use Rattle.meaning.specs.declared.Refusal.{Refusal}
 use Rattle.meaning.specs.declared.Refusal.the-variants.{Size, Letters, Measures, Record, Order, Repeats, Conflict}
 use Rattle.meaning.specs.Expr.{Expr, empty, event, choice, sequence, repeat, root, size}
 use Rattle.meaning.specs.Node.{Node, InTable, InOrder, Stands, repeatsBelow}
-use Rattle.meaning.specs.Conflict.{LowestConflict}
+use Rattle.meaning.specs.Conflict.{LowestConflict, SharedCodes}
 use Rattle.meaning.specs.File.{Sized, Lettered, Measured, TableBelow, OrderBelow, Lists, WellFormed, Refused, by-size, by-letters, by-measures, by-record, by-order, by-root, by-repeats, Holds, Barred, malformed, conflicting, Admitted, count, nodeAt}
 use Rattle.meaning.specs.Numbers.{row}
 use Rattle.meaning.proofs.expressions.Parts.{part-within, root-size}
 use Rattle.meaning.proofs.file.Files.{stands-unique, holds-bounded}
 use Rattle.meaning.proofs.determinism.Diverge.{strong-no-conflict}
-use Rattle.meaning.proofs.determinism.Lowest.{lowest-unique}
+use Rattle.meaning.proofs.determinism.Lowest.{lowest-unique, shared-unique}
 
 -- the tests 1, 2, 3, 4, 5 (order), 5 (root) and 6, in turn
 abbrev Test : List ℕ → ℕ → Type 0
@@ -215,20 +215,22 @@ holds-not-refused f e r h a =
 -- a file that holds an expression without a conflict is not refused with 1 to 7
 pub admitted-not-barred : (f : List ℕ) (e : Expr) (r : Refusal) → Admitted f e → ¬ Barred f r
 admitted-not-barred f e r a (malformed b) = holds-not-refused f e r (a .holds) b
-admitted-not-barred f e r a (conflicting d i k c h l) =
+admitted-not-barred f e r a (conflicting d i k c low high n h l s) =
     let same = holds-unique f d e h (a .holds) in
     let bounded = holds-bounded (a .holds) in
-    strong-no-conflict e bounded (a .strong) i k c (subst (λ (x : Expr). LowestConflict x i k c) same l .there)
+    strong-no-conflict e bounded (a .strong) i k c (subst (λ (x : Expr). LowestConflict x i k c) same l .code .holds)
 
 -- a file is refused with 1 to 7 in one way
 pub barred-unique : (f : List ℕ) (r q : Refusal) → Barred f r → Barred f q → r ≡ q
 barred-unique f r q (malformed a) (malformed b) = refused-unique f r q a b
-barred-unique f r q (malformed a) (conflicting e i k c h l) = absurd (holds-not-refused f e r h a)
-barred-unique f r q (conflicting e i k c h l) (malformed b) = absurd (holds-not-refused f e q h b)
-barred-unique f r q (conflicting e i k c h l) (conflicting d j m b g o) =
-    let same = lowest-unique e i k c j m b l (subst (λ (x : Expr). LowestConflict x j m b) (holds-unique f d e g h) o) in
-    let p = same .0 in let x = same .1 in let y = same .2 in
-    λ t. Conflict (p t) (x t) (y t)
+barred-unique f r q (malformed a) (conflicting e i k c low high n h l s) = absurd (holds-not-refused f e r h a)
+barred-unique f r q (conflicting e i k c low high n h l s) (malformed b) = absurd (holds-not-refused f e q h b)
+barred-unique f r q (conflicting e i k c low high n h l s) (conflicting d j m b low′ high′ n′ g o z) =
+    let one = holds-unique f d e g h in
+    let same = lowest-unique e i k c j m b l (subst (λ (x : Expr). LowestConflict x j m b) one o) in
+    let there : SharedCodes e i k low′ high′ n′ = subst₃ (λ (x : Expr) (y w : ℕ). SharedCodes x y w low′ high′ n′) one (sym (same .0)) (sym (same .1)) z in
+    let codes = shared-unique s there in
+    λ t. Conflict (same .0 t) (same .1 t) (same .2 t) (codes .0 t) (codes .1 t) (codes .2 t)
 
 -- the node reported is one of the file's, of which there are at most 512
 refused-node-small : (f : List ℕ) (r : Refusal) → Refused f r → row r .node < 512
@@ -242,8 +244,8 @@ refused-node-small f r (by-repeats e i w l a b) = omega (arith, w .framed .2 .1)
 
 pub barred-node-small : (f : List ℕ) (r : Refusal) → Barred f r → row r .node < 512
 barred-node-small f r (malformed b) = refused-node-small f r b
-barred-node-small f r (conflicting e i k c h l) =
-    let there = l .there in
+barred-node-small f r (conflicting e i k c low high n h l s) =
+    let there = l .code .holds in
     omega (arith, part-within 0 e i (there .0) (there .1), h .formed .lists .1, h .formed .framed .2 .1, zero-add (size e))
 
 -- a file is refused with one of 1 to 7
@@ -258,4 +260,4 @@ refused-number f r (by-repeats e i w l a b) = omega arith
 
 pub barred-number : (f : List ℕ) (r : Refusal) → Barred f r → row r .answer ≤ 7
 barred-number f r (malformed b) = omega (arith, refused-number f r b)
-barred-number f r (conflicting e i k c h l) = omega arith
+barred-number f r (conflicting e i k c low high n h l s) = omega arith

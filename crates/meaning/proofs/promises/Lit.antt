@@ -74,9 +74,9 @@ continues-lit e h d u z c r b =
 -- so it is in the set that Prompt gives
 pub prompt-hides-nothing : (f state : List ℕ) (low high : ℕ) → Prompts f state (prompt.Lit low high) → (e : Expr) → Admitted f e
     → (u : List ℕ) → ReachesBytes e u state → (c : ℕ) → Begins e (u ++ (c ∷ [])) → Has (inWords low high) c
-prompt-hides-nothing f state low high (Prompts.lit d v low′ high′ told came small short holds) e admitted u r c b =
+prompt-hides-nothing f state low high (Prompts.lit d v low′ high′ told came set) e admitted u r c b =
     let same = admitted-unique f d e told admitted in
     let z = r .0 in
     let lit = continues-lit e (holds-bounded (admitted .holds)) (admitted .strong) u z c (r .1) b in
     let node : twoAt state 0 ≡ z .node = ap (λ (x : List ℕ). twoAt x 0) (r .2) ∙ state-node f e admitted u z (r .1) in
-    holds c .1 (subst (λ (x : Expr). Lights x (twoAt state 0) c) (sym same) (subst (λ (i : ℕ). Lights e i c) (sym node) lit))
+    set .codes c .1 (subst (λ (x : Expr). Lights x (twoAt state 0) c) (sym same) (subst (λ (i : ℕ). Lights e i c) (sym node) lit))

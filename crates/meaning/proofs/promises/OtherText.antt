@@ -20,7 +20,7 @@ use Rattle.meaning.proofs.file.FreeText.{ReadAlike, text-read-alike}
 module _ {f g : List ℕ} (a : ReadAlike f g) where
   barred-too : (r : Refusal) → Barred f r → Barred g r
   barred-too r (malformed p) = malformed (a .refused r .0 p)
-  barred-too r (conflicting e i k c p l) = conflicting e i k c (a .holds e .0 p) l
+  barred-too r (conflicting e i k c low high n p l s) = conflicting e i k c low high n (a .holds e .0 p) l s
 
   admitted-too : (e : Expr) → Admitted f e → Admitted g e
   admitted-too e p = record { holds = a .holds e .0 (p .holds); strong = p .strong }
@@ -49,7 +49,7 @@ module _ {f g : List ℕ} (a : ReadAlike f g) where
   prompts-too : (state : List ℕ) (answer : PromptAnswer) → Prompts f state answer → Prompts g state answer
   prompts-too state answer (Prompts.refused r p) = Prompts.refused r (barred-too r p)
   prompts-too state answer (Prompts.unreached e p n) = Prompts.unreached e (admitted-too e p) n
-  prompts-too state answer (Prompts.lit e u low high p n l k h) = Prompts.lit e u low high (admitted-too e p) n l k h
+  prompts-too state answer (Prompts.lit e u low high p n s) = Prompts.lit e u low high (admitted-too e p) n s
 
 -- ---- the calls
 

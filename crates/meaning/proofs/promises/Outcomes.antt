@@ -1,6 +1,5 @@
 -- Each of the five promises has at most one outcome, for every input.
 use mathlib.Core.Path.{_≡_, refl, sym, ap, ap₂, _∙_, subst}
-use mathlib.Core.Logic.{_↔_, Iff·symm, Iff·trans}
 use mathlib.Core.List.{List, _++_}
 use Prim.Native.Nat.{ℕ, _≤_, _<_}
 use native.Mathlib.Omega.{arith}
@@ -21,14 +20,14 @@ use Rattle.meaning.specs.Expr.{Expr}
 use Rattle.meaning.specs.Word.{Word}
 use Rattle.meaning.specs.Strong.{StronglyDeterministic}
 use Rattle.meaning.specs.Reading.{Item, Reading, codes}
-use Rattle.meaning.specs.Codes.{Has, inWords}
+use Rattle.meaning.specs.Codes.{SetInWords}
 use Rattle.meaning.specs.Bytes.{twoAt}
 use Rattle.meaning.specs.File.{Refused, Admitted}
 use Rattle.meaning.specs.State.{stateBytes, ReachesBytes}
 use Rattle.meaning.specs.Record.{recordBytes}
 use Rattle.meaning.specs.Numbers.{JudgeNumbers, judgeNumbers, FollowNumbers, followNumbers, WriteNumbers, writeNumbers, CheckNumbers, checkNumbers, PromptNumbers, promptNumbers}
 use Rattle.meaning.specs.Promises.{VerdictOf, complete, unfinished, broken, Takes, GoesOn, Judges, Follows, Writes, Checks, Lights, Prompts, JudgePromise, FollowPromise, WritePromise, CheckPromise, PromptPromise}
-use Rattle.meaning.proofs.general.CodeSets.{same-words}
+use Rattle.meaning.proofs.general.CodeSets.{set-unique}
 use Rattle.meaning.proofs.expressions.WordReading.{word-iff-reading}
 use Rattle.meaning.proofs.determinism.OneRecord.{same-codes-same-reading}
 use Rattle.meaning.proofs.state.States.{one-state}
@@ -183,17 +182,16 @@ check-one-outcome f bytes out other p q = p .2 ∙ ap checkNumbers (checks-uniqu
 prompts-unique : (f state : List ℕ) (a b : PromptAnswer) → Prompts f state a → Prompts f state b → a ≡ b
 prompts-unique f state a b (Prompts.refused r p) (Prompts.refused q o) = ap prompt.Refused (barred-unique f r q p o)
 prompts-unique f state a b (Prompts.refused r p) (Prompts.unreached e o n) = absurd (admitted-not-barred f e r o p)
-prompts-unique f state a b (Prompts.refused r p) (Prompts.lit e u low high o n l m h) = absurd (admitted-not-barred f e r o p)
+prompts-unique f state a b (Prompts.refused r p) (Prompts.lit e u low high o n s) = absurd (admitted-not-barred f e r o p)
 prompts-unique f state a b (Prompts.unreached e o n) (Prompts.refused q p) = absurd (admitted-not-barred f e q o p)
 prompts-unique f state a b (Prompts.unreached e o n) (Prompts.unreached d p m) = refl
-prompts-unique f state a b (Prompts.unreached e o n) (Prompts.lit d u low high p m l k h) =
+prompts-unique f state a b (Prompts.unreached e o n) (Prompts.lit d u low high p m s) =
     absurd (n u (subst (λ (x : Expr). ReachesBytes x u state) (admitted-unique f d e p o) m))
-prompts-unique f state a b (Prompts.lit e u low high o n l m h) (Prompts.refused q p) = absurd (admitted-not-barred f e q o p)
-prompts-unique f state a b (Prompts.lit e u low high o n l m h) (Prompts.unreached d p k) =
+prompts-unique f state a b (Prompts.lit e u low high o n s) (Prompts.refused q p) = absurd (admitted-not-barred f e q o p)
+prompts-unique f state a b (Prompts.lit e u low high o n s) (Prompts.unreached d p k) =
     absurd (k u (subst (λ (x : Expr). ReachesBytes x u state) (admitted-unique f e d o p) n))
-prompts-unique f state a b (Prompts.lit e u low high o n l m h) (Prompts.lit d v low′ high′ p k i j g) =
-    let told = subst (λ (x : Expr). (c : ℕ) → Has (inWords low′ high′) c ↔ Lights x (twoAt state 0) c) (admitted-unique f d e p o) g in
-    let same = same-words low high low′ high′ l m i j (λ c. Iff·trans (h c) (Iff·symm (told c))) in
+prompts-unique f state a b (Prompts.lit e u low high o n s) (Prompts.lit d v low′ high′ p k t) =
+    let same = set-unique s (subst (λ (x : Expr). SetInWords (Lights x (twoAt state 0)) low′ high′) (admitted-unique f d e p o) t) in
     ap₂ prompt.Lit (same .0) (same .1)
 
 pub prompt-one-outcome : (f state : List ℕ) (out other : PromptNumbers) → PromptPromise f state out → PromptPromise f state other → out ≡ other

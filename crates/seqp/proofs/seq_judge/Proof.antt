@@ -1,7 +1,7 @@
 -- `seqp::seq_judge` meets its promise: each arm gives the numbers of its answer. Assumes nothing.
 use borrow.Author.Needs.{needs}
-use mathlib.Core.Path.{refl}
-use Rattle.meaning.specs.Numbers.{judged, judgeNumbers}
+use mathlib.Core.Path.{refl, ap}
+use Rattle.meaning.specs.Numbers.{JudgeNumbers, judgeNumbers}
 use Rattle.meaning.specs.Promises.{JudgePromise}
 use Rattle.meaning.proofs.promises.JudgeNumbers.{refused-node}
 use Rattle.seqp.proofs.Laws.{arm}
@@ -17,22 +17,15 @@ enum-told c = search needs
 enum-known-refusal : tie.Need-enum-known-refusal
 enum-known-refusal c = search needs
 
-node-of-requires : tie.Need-node-of-requires
-node-of-requires c κs = search needs
+row-of-requires : tie.Need-row-of-requires
+row-of-requires c κs = search needs
 
 cast-node : tie.Need-cast-node
 cast-node c =
-    let small = refused-node _ (c .before .before .before .before .judge .ensures) (c .before .before .refusal .given .1) in
+    let told = c .before .before .before in
+    let small = refused-node _ (told .before .before .judge .ensures) (told .refusal .given .1) in
+    let same = ap (λ (n : JudgeNumbers). n .node) (c .before .row-of .ensures) in
     search needs
-
-kind-of-requires : tie.Need-kind-of-requires
-kind-of-requires c κs = search needs
-
-code-of-requires : tie.Need-code-of-requires
-code-of-requires c κs = search needs
-
-number-of-requires : tie.Need-number-of-requires
-number-of-requires c κs = search needs
 
 returns : tie.Need-returns
 unfolding JudgePromise
@@ -41,12 +34,8 @@ returns c = arm judgeNumbers (c .before .before .judge .ensures) (c .enum-told .
 returns-2 : tie.Need-returns-2
 unfolding JudgePromise
 returns-2 c =
-    let told = c .before .before .before .before .before in
-    let number = c .number-of .ensures in
-    let node = c .before .before .before .node-of .ensures in
-    let kind = c .before .before .kind-of .ensures in
-    let code = c .before .code-of .ensures in
-    arm judgeNumbers (told .before .before .judge .ensures) (told .refusal .given .1) (λ i. judged (number i) (node i) (kind i) (code i))
+    let told = c .before .before .before in
+    arm judgeNumbers (told .before .before .judge .ensures) (told .refusal .given .1) (c .before .row-of .ensures)
 
 pub seq-judge-spec : {M : Type 1} → statement M
 seq-judge-spec =
@@ -55,10 +44,7 @@ seq-judge-spec =
     judge-requires
     enum-told
     enum-known-refusal
-    node-of-requires
+    row-of-requires
     cast-node
-    kind-of-requires
-    code-of-requires
-    number-of-requires
     returns
     returns-2)

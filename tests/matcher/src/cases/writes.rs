@@ -8,7 +8,7 @@ use crate::palette;
 use crate::state::Place;
 use crate::themes::{Theme, Theme as T};
 use crate::trail::Trail;
-use crate::tree::{Bounds, Symbol, Tree};
+use crate::tree::{Symbol, Tree, ENDLESS};
 
 impl Maker {
     pub(super) fn write_refused(&mut self, turn: usize) -> Call {
@@ -86,10 +86,7 @@ impl Maker {
         for place in 1..block {
             symbols.extend([Symbol::Event(code(place)), Symbol::Sequence]);
         }
-        symbols.push(Symbol::Repeat(Bounds {
-            lower: 0,
-            upper: None,
-        }));
+        symbols.push(ENDLESS);
         let procedure = Procedure::new(Tree::from_postfix(symbols).expect("a tree"));
         let events = if turn % 4 == 0 {
             MOST_EVENTS

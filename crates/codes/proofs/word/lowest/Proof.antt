@@ -1,5 +1,5 @@
 -- `codes::word::lowest` meets its contract: its result is the word's trailing zeros. Assumes nothing.
-use Rattle.codes.proofs.Trailing.{trailing-lowest}
+use Rattle.codes.proofs.Digits.{trailing-lowest}
 use Rattle.codes.proofs.word.lowest.Statement.{statement}
 use Rattle.codes.proofs.word.lowest.Tie as tie
 
