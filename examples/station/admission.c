@@ -9,6 +9,8 @@
 
 struct judgement {
     uint32_t answer, node, kind, code;
+    struct key_set shared;
+    uint32_t count;
 };
 
 static void explain_length(const struct procedure *p)
@@ -101,7 +103,19 @@ static void explain_order(const struct procedure *p, unsigned number)
                first_node(p, number));
 }
 
-/* The two ways in which the key could come, which no record could tell apart. */
+/* The key that clashes, or all of them in a sentence of their own: each can come in the same two ways. */
+static void name_keys(const struct keys *keys, struct judgement given)
+{
+    if (given.count == 1) {
+        print_key(keys, given.code);
+        return;
+    }
+    printf("%" PRIu32 " keys clash there:\n", given.count);
+    print_key_lines(keys, given.shared);
+    printf("Each");
+}
+
+/* The two ways in which a key could come, which no record could tell apart. */
 static void explain_conflict(const struct procedure *p, const struct keys *keys, struct judgement given)
 {
     static const char *const ways[] = {
@@ -113,7 +127,7 @@ static void explain_conflict(const struct procedure *p, const struct keys *keys,
     printf("Node %u has a conflict of kind %u:\n  ", given.node, given.kind);
     print_part(p, given.node);
     printf("\n");
-    print_key(keys, given.code);
+    name_keys(keys, given);
     printf(" can come there in two ways, and no record could tell which:\n%s.\n", ways[given.kind]);
 }
 
@@ -152,7 +166,8 @@ static void explain_refusal(const struct procedure *p, const struct keys *keys, 
 int is_admitted(const struct procedure *p, struct keys *keys, const char *path)
 {
     struct judgement given;
-    given.answer = seq_judge(p->bytes, p->length, &given.node, &given.kind, &given.code);
+    given.answer = seq_judge(p->bytes, p->length, &given.node, &given.kind, &given.code, &given.shared.low,
+                             &given.shared.high, &given.count);
     if (given.answer == SEQ_DONE || given.answer > SEQ_LAYOUT)
         read_keys(p, keys);
     if (given.answer == SEQ_DONE) {

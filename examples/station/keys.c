@@ -5,6 +5,8 @@
 
 #include "plain.h"
 
+enum { LINE_WIDTH = 79, INDENT = 2 };
+
 /* A line of the free text, without its end. */
 struct text_line {
     const uint8_t *bytes;
@@ -52,26 +54,66 @@ void read_keys(const struct procedure *p, struct keys *keys)
     }
 }
 
+static int is_named(const struct keys *keys, unsigned code)
+{
+    return code < KEYS && keys->names[code].length > 0;
+}
+
 void print_key(const struct keys *keys, unsigned code)
 {
     printf("e%u", code);
-    if (code < KEYS && keys->names[code].length > 0) {
+    if (is_named(keys, code)) {
         printf(" ");
         print_plain(stdout, keys->names[code].bytes, keys->names[code].length);
     }
 }
 
-void print_keys(const struct keys *keys, struct lit lit)
+void print_keys(const struct keys *keys, struct key_set set)
 {
     const char *before = "";
-    if (lit.low == 0 && lit.high == 0)
+    if (set.low == 0 && set.high == 0)
         printf("none");
     for (unsigned code = 0; code < KEYS; code++)
-        if (seq_has_code(lit.low, lit.high, code)) {
+        if (seq_has_code(set.low, set.high, code)) {
             printf("%s", before);
             print_key(keys, code);
             before = ", ";
         }
+}
+
+/* How many signs print_key prints. */
+static size_t key_width(const struct keys *keys, unsigned code)
+{
+    const size_t width = (size_t)snprintf(NULL, 0, "e%u", code);
+    if (!is_named(keys, code))
+        return width;
+    return width + 1 + plain_width(keys->names[code].bytes, keys->names[code].length);
+}
+
+/*
+ * Goes to the place of a key of this width and gives the column behind it. The place is on the same line if the key and
+ * a comma still fit there. Column 0 is before the first key.
+ */
+static size_t place_key(size_t column, size_t width)
+{
+    const size_t behind = column + strlen(", ") + width;
+    if (column > 0 && behind < LINE_WIDTH) {
+        printf(", ");
+        return behind;
+    }
+    printf("%s%*s", column > 0 ? ",\n" : "", INDENT, "");
+    return INDENT + width;
+}
+
+void print_key_lines(const struct keys *keys, struct key_set set)
+{
+    size_t column = 0;
+    for (unsigned code = 0; code < KEYS; code++)
+        if (seq_has_code(set.low, set.high, code)) {
+            column = place_key(column, key_width(keys, code));
+            print_key(keys, code);
+        }
+    printf("\n");
 }
 
 void print_text(const struct procedure *p)

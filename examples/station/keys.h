@@ -14,14 +14,17 @@ struct keys {
     } names[KEYS];
 };
 
-/* The keys that are lit, as the library gives them: 0 to 63 as bits of the first word, the others of the second. */
-struct lit {
+/* A set of keys, as the library gives it: 0 to 63 as bits of the first word, the others of the second. */
+struct key_set {
     uint64_t low, high;
 };
 
 void read_keys(const struct procedure *p, struct keys *keys);
 void print_key(const struct keys *keys, unsigned code);
-void print_keys(const struct keys *keys, struct lit lit);
+void print_keys(const struct keys *keys, struct key_set set);
+
+/* Indented, as many on a line as fit, for sets that may be long. */
+void print_key_lines(const struct keys *keys, struct key_set set);
 
 /* The free text, in plain ASCII. */
 void print_text(const struct procedure *p);

@@ -2,16 +2,31 @@
 
 #include <string.h>
 
+/* Whether a byte is in plain ASCII and shows without a number. */
+static int is_sign(unsigned char byte)
+{
+    return byte >= ' ' && byte <= '~';
+}
+
 void print_plain(FILE *to, const void *bytes, size_t length)
 {
     const unsigned char *at = bytes;
     for (const unsigned char *end = at + length; at < end; at++)
         if (*at == '\\')
             fputs("\\\\", to);
-        else if (*at >= ' ' && *at <= '~')
+        else if (is_sign(*at))
             putc(*at, to);
         else
             fprintf(to, "\\x%02X", *at);
+}
+
+size_t plain_width(const void *bytes, size_t length)
+{
+    const unsigned char *at = bytes;
+    size_t width = 0;
+    for (const unsigned char *end = at + length; at < end; at++)
+        width += !is_sign(*at) ? strlen("\\xC3") : *at == '\\' ? 2 : 1;
+    return width;
 }
 
 void say_of(FILE *to, const char *before, const char *outside, const char *behind)

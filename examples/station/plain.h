@@ -11,6 +11,9 @@
  */
 void print_plain(FILE *to, const void *bytes, size_t length);
 
+/* How many signs that is. */
+size_t plain_width(const void *bytes, size_t length);
+
 /* A text from outside between two of our own: "Cannot read ", the file's name, " ..". */
 void say_of(FILE *to, const char *before, const char *outside, const char *behind);
 

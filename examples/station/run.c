@@ -45,9 +45,9 @@ int is_unsaved(const struct run *run)
 }
 
 /* The keys that can follow the events taken. */
-static struct lit next_keys(const struct procedure *p, const struct run *run)
+static struct key_set next_keys(const struct procedure *p, const struct run *run)
 {
-    struct lit lit;
+    struct key_set lit;
     demand_done("seq_prompt", seq_prompt(p->bytes, p->length, run->state, sizeof run->state, &lit.low, &lit.high));
     return lit;
 }
@@ -55,7 +55,7 @@ static struct lit next_keys(const struct procedure *p, const struct run *run)
 void print_lit(const struct procedure *p, const struct keys *keys, const struct run *run)
 {
     printf("Lit: ");
-    print_keys(keys, run->verdict == SEQ_BROKEN ? (struct lit){0, 0} : next_keys(p, run));
+    print_keys(keys, run->verdict == SEQ_BROKEN ? (struct key_set){0, 0} : next_keys(p, run));
     printf("\n");
 }
 
@@ -83,7 +83,7 @@ static int is_lost(const struct procedure *p, struct run *run)
 /* A key may be lit and yet break the run, since the prompt does not look at counts; the blocks then tell why. */
 static void explain_break(const struct procedure *p, const struct keys *keys, struct run *run, unsigned code)
 {
-    const struct lit lit = next_keys(p, run);
+    const struct key_set lit = next_keys(p, run);
     printf("broken at event %zu.\n", run->length + 1);
     if (!seq_has_code(lit.low, lit.high, code)) {
         printf("Lit was: ");
