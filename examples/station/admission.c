@@ -103,16 +103,16 @@ static void explain_order(const struct procedure *p, unsigned number)
                first_node(p, number));
 }
 
-/* The key that clashes, or all of them in a sentence of their own: each can come in the same two ways. */
+/* All keys that clash, where there are several, and then one of them: each can come in the same two ways. */
 static void name_keys(const struct keys *keys, struct judgement given)
 {
-    if (given.count == 1) {
-        print_key(keys, given.code);
-        return;
+    const int are_several = given.count > 1;
+    if (are_several) {
+        printf("%" PRIu32 " keys clash there:\n", given.count);
+        print_key_lines(keys, given.shared);
     }
-    printf("%" PRIu32 " keys clash there:\n", given.count);
-    print_key_lines(keys, given.shared);
-    printf("Each");
+    print_key(keys, given.code);
+    printf("%s", are_several ? ", like each of them," : "");
 }
 
 /* The two ways in which a key could come, which no record could tell apart. */
