@@ -275,6 +275,14 @@ mod tests {
         gaps.contains(&format!("{what}: 0 of at least 1"))
     }
 
+    /// Of the names of a row all are lacking but one.
+    fn assert_only(gaps: &[String], row: &str, names: &[&str], found: &str) {
+        for name in names {
+            let asked = format!("{row} {name}");
+            assert_eq!(lacks(gaps, &asked), *name != found, "{asked}");
+        }
+    }
+
     fn file_of(text: &str) -> Vec<u8> {
         file::write(&[], tree(text).symbols())
     }
@@ -294,11 +302,7 @@ mod tests {
             ("#64+#127", "the high word"),
             ("#63+#64", "both words"),
         ] {
-            let gaps = prompt(text);
-            for words in super::WORDS {
-                let asked = format!("prompts {words}");
-                assert_eq!(lacks(&gaps, &asked), words != lit, "{text} {words}");
-            }
+            assert_only(&prompt(text), "prompts", &super::WORDS, lit);
         }
     }
 
@@ -341,11 +345,7 @@ mod tests {
             ("#0-126+#0-126", "several"),
             ("#0-127+#0-127", "every code"),
         ] {
-            let gaps = judge(text);
-            for count in super::COUNTS {
-                let asked = format!("shared {count}");
-                assert_eq!(lacks(&gaps, &asked), count != found, "{text} {count}");
-            }
+            assert_only(&judge(text), "shared", &super::COUNTS, found);
         }
     }
 
@@ -353,13 +353,9 @@ mod tests {
     fn more_than_one_shared_code_of_each_kind_is_asked_for() {
         let texts = ["#_+#_", "#_{0,1}#_", "#_{1,2}#_", "(#_{1,2}){3,4}"];
         for (text, found) in texts.into_iter().zip(super::KINDS) {
-            let with_one = judge(&text.replace('_', "5"));
-            let with_two = judge(&text.replace('_', "5-6"));
-            for kind in super::KINDS {
-                let asked = format!("more than one {kind}");
-                assert!(lacks(&with_one, &asked), "{text} {kind}");
-                assert_eq!(lacks(&with_two, &asked), kind != found, "{text} {kind}");
-            }
+            let [with_one, with_two] = ["5", "5-6"].map(|codes| judge(&text.replace('_', codes)));
+            assert_only(&with_one, "more than one", &super::KINDS, "no kind");
+            assert_only(&with_two, "more than one", &super::KINDS, found);
         }
     }
 
@@ -370,11 +366,7 @@ mod tests {
             ("#64+#64", "the high word"),
             ("(#64+#0)+(#0+#64)", "both words"),
         ] {
-            let gaps = judge(text);
-            for words in &super::WORDS[1..] {
-                let asked = format!("shared in {words}");
-                assert_eq!(lacks(&gaps, &asked), *words != found, "{text} {words}");
-            }
+            assert_only(&judge(text), "shared in", &super::WORDS[1..], found);
         }
     }
 
