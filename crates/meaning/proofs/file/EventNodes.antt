@@ -120,6 +120,7 @@ first-code s (sequence l r) c (inl f) = let t = first-code s l c f in (t .0, inl
 first-code s (sequence l r) c (inr f) = let t = first-code (s + size l) r c (f .1) in (t .0, inr (inl (t .1)))
 first-code s (repeat b lower upper) c f = let t = first-code s b c f in (t .0, inl (t .1))
 
+-- each code that a part's own node shares: it begins a child
 own-code : (s : ℕ) (p : Expr) (k c : ℕ) → Conflict p k c → (q : ℕ) × Part s p q (event c)
 own-code s empty k c f = absurd f
 own-code s (event d) k c f = absurd f

@@ -74,7 +74,7 @@ refused-plain (by-order i p t l o n) = refl
 refused-plain (by-root i p t o n l) = refl
 refused-plain (by-repeats e i w l m n) = refl
 
--- the code told is the lowest of the set, which has at least one
+-- the code told is the lowest of the set, which has from 1 to 128 codes
 pub record CodesTold (out : JudgeNumbers) : Type 0 where
   pub lowest : Least (Has (inWords (out .low) (out .high))) (out .code)
   pub some : 1 ≤ out .count
