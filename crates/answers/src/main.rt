@@ -1,4 +1,6 @@
 // Answers a stream of calls from standard input, a line for each. Results are filled with junk before a call.
+#![tactic(auto)]
+
 mod stream; // stream.rt: letters and slices from standard input
 mod text; // text.rt: the line of an answer
 

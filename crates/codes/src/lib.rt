@@ -1,5 +1,7 @@
 // Sets of codes, as two words: codes 0 to 63 in the first, the low word, and the others, less 64, in the second, the high word.
 // A contract says which codes are in the result (`specs/Codes.antt`).
+#![tactic(auto)]
+
 ghost use Rattle.std.proofs.Math.Bool.{So};
 ghost use Rattle.std.specs.Prelude.{true, ◌↔◌, ◌⊎◌, ◌≡◌, ℕ, ◌<◌};
 ghost use Rattle.meaning.specs.Properties.{CountBelow};

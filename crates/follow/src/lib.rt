@@ -1,4 +1,6 @@
 // Runs against a procedure: from a state, with the events of a batch, to the state after those taken.
+#![tactic(auto)]
+
 ghost use Rattle.meaning.specs.Promises.{Follows};
 
 use judge::Admission;

@@ -1,4 +1,6 @@
 // The judgement of a procedure file: admitted, or refused with 1 to 7.
+#![tactic(auto)]
+
 ghost use Rattle.meaning.specs.Promises.{Judges};
 ghost use Rattle.judge.specs.Admission.{Admits};
 

@@ -1,4 +1,5 @@
 // The answer types that more than one crate uses. `specs/Numbers.antt` gives the request's number for each case.
+#![tactic(auto)]
 
 // Why a call is refused: a case for each number from 1 on, in the order of the table.
 #[derive(Drop)]

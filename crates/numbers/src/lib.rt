@@ -1,4 +1,6 @@
 // Numbers in bytes, little-endian: of two bytes and of four, read and put.
+#![tactic(auto)]
+
 ghost use Rattle.std.specs.Prelude.{◌≡◌, ◌+◌, ◌<◌, length};
 ghost use Rattle.meaning.specs.Bytes.{byte_at, two_at, four_at};
 ghost use Rattle.numbers.specs.Put.{put_two, put_four};

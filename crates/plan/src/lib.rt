@@ -1,4 +1,6 @@
 // The plan of a procedure: for each node what the way up from an event node needs.
+#![tactic(auto)]
+
 ghost use Rattle.std.specs.Prelude.{◌≡◌, ◌<◌};
 ghost use Rattle.plan.specs.Plan.{begins_of};
 

@@ -1,4 +1,6 @@
 // The procedure file: read into entries and what is known of them, or refused with 1 to 6.
+#![tactic(auto)]
+
 ghost use Rattle.procedure.specs.Opening.{Opens};
 
 use meaning::Refusal;

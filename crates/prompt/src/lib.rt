@@ -1,4 +1,6 @@
 // The prompt: from a file and a state to the codes to light.
+#![tactic(auto)]
+
 ghost use Rattle.meaning.specs.Promises.{Prompts};
 
 use judge::Admission;

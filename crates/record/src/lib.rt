@@ -1,4 +1,6 @@
 // Records: the items of a reading as bytes, taken one by one.
+#![tactic(auto)]
+
 ghost use Rattle.meaning.specs.Expr.{Expr};
 ghost use Rattle.meaning.specs.Promises.{Checks};
 ghost use Rattle.procedure.specs.Entry.{held};

@@ -1,4 +1,6 @@
 // Judges the procedure file on standard input: one line of answer, node, kind, code and number of shared codes in decimal.
+#![tactic(auto)]
+
 use libc::{STDIN_FILENO, STDOUT_FILENO};
 
 // One byte over the largest file is enough to know that it is too long.

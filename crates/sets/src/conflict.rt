@@ -5,7 +5,7 @@ ghost use Rattle.codes.specs.Codes.{Contains};
 ghost use Rattle.sets.specs.Lowest.{Lowest, SharedAt, Sooner};
 
 // A conflict, or none.
-#[derive(Drop)]
+#[derive(Clone, Copy)]
 pub struct Found {
     // Its node and its kind, where there is one.
     pub node: usize,

@@ -14,7 +14,7 @@ use crate::conflict::Found;
 use procedure::{bounds, entry};
 
 // What is known of a part.
-#[derive(Drop)]
+#[derive(Clone, Copy)]
 pub struct PartSets {
     // Whether it has the empty word.
     pub null: bool,
@@ -25,7 +25,7 @@ pub struct PartSets {
 }
 
 // What is worked out of a node: first and after of its part, and the lowest conflict of the node itself.
-#[derive(Drop)]
+#[derive(Clone, Copy)]
 pub struct NodeSets {
     pub first: [u64; 2],
     pub after: [u64; 2],

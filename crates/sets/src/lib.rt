@@ -1,4 +1,6 @@
 // First and after of every part, and the lowest conflict: one pass upward, each node from its children.
+#![tactic(auto)]
+
 ghost use Rattle.std.specs.Prelude.{◌≤◌, ◌<◌, length};
 ghost use Rattle.meaning.specs.Conflict.{ConflictAt};
 ghost use Rattle.meaning.specs.Expr.{Expr};

@@ -1,4 +1,6 @@
 // The step from where a run stands to an event node.
+#![tactic(auto)]
+
 ghost use Rattle.std.specs.Prelude.{◌≡◌, Bool, List, ◌<◌};
 ghost use Rattle.meaning.specs.Expr.{Expr};
 ghost use Rattle.meaning.specs.Theory.Places.{Place, node_of};

@@ -1,4 +1,6 @@
 // Records written: a run that is complete, as the items of its one reading.
+#![tactic(auto)]
+
 ghost use Rattle.std.specs.Prelude.{List, ℕ};
 ghost use Rattle.meaning.specs.Expr.{Expr};
 ghost use Rattle.meaning.specs.File.{Admitted};

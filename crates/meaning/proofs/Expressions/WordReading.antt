@@ -11,7 +11,7 @@ use native.Mathlib.Nat.{le_refl, le_of_suc-le-suc, le-max_left, le-max_right}
 use lib.ListN.{length, take, drop, take-append-drop}
 use lib.Seq.{take-append_seam}
 use Rattle.meaning.specs.Expr.{Expr, empty, event, choice, sequence, repeat, size, Bounded, Upper, upto, Within}
-use Rattle.meaning.specs.Lists.{nil, one, Or, left, right, Cat, cat, Power, none, more, Times, times}
+use Rattle.meaning.specs.Lists.{Nil, One, nil, one, Or, left, right, Cat, cat, Power, none, more, Times, times}
 use Rattle.meaning.specs.Word.{Word, Begins}
 use Rattle.meaning.specs.Normal.{nullable, normal, is_zero, low}
 use Rattle.meaning.specs.Reading.{Item, place, opening, closing, Reading, codes, up_to, Block, block}
@@ -203,8 +203,8 @@ block_agrees {P} {Q} r f = (word, reading)
 
 -- readings have the codes of words, and words have readings
 readings_words : (s : ℕ) (e : Expr) → Bounded e → Corresponds Coded (Reading s e) (Word e)
-readings_words s empty h = (λ x p. elim p [ nil ↦ ([], nil, refl) ], λ w p. elim p [ nil ↦ ([], nil, refl) ])
-readings_words s (event c) h = (λ x p. elim p [ one ↦ (c ∷ [], one, refl) ], λ w p. elim p [ one ↦ (place s c ∷ [], one, refl) ])
+readings_words s empty h = (λ x p. elim p as (λ y _. (w : List ℕ) × Nil w × Coded y w) [ nil ↦ ([], nil, refl) ], λ w p. elim p as (λ v _. (x : List Item) × Nil x × Coded x v) [ nil ↦ ([], nil, refl) ])
+readings_words s (event c) h = (λ x p. elim p as (λ y _. (w : List ℕ) × One c w × Coded y w) [ one ↦ (c ∷ [], one, refl) ], λ w p. elim p as (λ v _. (x : List Item) × One (place s c) x × Coded x v) [ one ↦ (place s c ∷ [], one, refl) ])
 readings_words s (choice l r) h = or_agrees (readings_words s l h.0) (readings_words (s + size l) r h.1)
 readings_words s (sequence l r) h = cat_agrees (readings_words s l h.0) coded_joins (readings_words (s + size l) r h.1)
 readings_words s (repeat b lower upper) h =

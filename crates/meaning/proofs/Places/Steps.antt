@@ -109,15 +109,16 @@ pub reading_begun : (s : ℕ) (e : Expr) → Bounded e → (x : List Item) → R
 reading_begun s empty h x nil = nothing refl
 reading_begun s (event c) h x one = first tt [] tt nil
 reading_begun s (choice l r) h x (left k) =
-    elim (reading_begun s l h.0 x k) [ nothing n ↦ nothing ((so_or (nullable l) (nullable r)).1 (inl n)) | first q y c w ↦ first (inl q) y c w ]
+    elim (reading_begun s l h.0 x k) as (λ y _. Begun s (choice l r) y)
+    [ nothing n ↦ nothing ((so_or (nullable l) (nullable r)).1 (inl n)) | first q y c w ↦ first (inl q) y c w ]
 reading_begun s (choice l r) h x (right k) =
-    elim (reading_begun (s + size l) r h.1 x k)
+    elim (reading_begun (s + size l) r h.1 x k) as (λ y _. Begun s (choice l r) y)
     [ nothing n ↦ nothing ((so_or (nullable l) (nullable r)).1 (inr n)) | first q y c w ↦ first (inr q) y c w ]
 reading_begun s (sequence l r) h x (cat u v a b) =
     begun_sequence u v (reading_begun s l h.0 u a) (reading_begun (s + size l) r h.1 v b) b
 reading_begun s (repeat b lower upper) h x (times j lo up p) =
     let f : Further s b lower upper zero x = blocks j (omega arith) (within_le _ j upper (omega arith) up) p in
-    elim (further_next s b lower upper (reading_begun s b h.0) zero x f)
+    elim (further_next s b lower upper (reading_begun s b h.0) zero x f) as (λ y _. Begun s (repeat b lower upper) y)
     [ enough le up ↦ nothing (low_zero (nullable b) lower le) | another q y c w ↦ first (q, zero) y (c, refl) w ]
 
 -- nothing, where the part may be empty, is a reading, and so is a first event with what completes it
@@ -177,13 +178,16 @@ pub rest_goes : (s : ℕ) (e : Expr) → Bounded e → (p : Place e) (y : List I
 rest_goes s empty h p y k = absurd k
 rest_goes s (event c) h p y nil = ends tt
 rest_goes s (choice l r) h (inl p) y k =
-    elim (rest_goes s l h.0 p y k) [ ends c ↦ ends c | steps q m z t w ↦ steps (inl q) m z t w ]
+    elim (rest_goes s l h.0 p y k) as (λ z _. Goes s (choice l r) (inl p) z)
+    [ ends c ↦ ends c | steps q m z t w ↦ steps (inl q) m z t w ]
 rest_goes s (choice l r) h (inr p) y k =
-    elim (rest_goes (s + size l) r h.1 p y k) [ ends c ↦ ends c | steps q m z t w ↦ steps (inr q) m z t w ]
+    elim (rest_goes (s + size l) r h.1 p y k) as (λ z _. Goes s (choice l r) (inr p) z)
+    [ ends c ↦ ends c | steps q m z t w ↦ steps (inr q) m z t w ]
 rest_goes s (sequence l r) h (inl p) y (cat u v a b) =
     goes_sequence u v (rest_goes s l h.0 p u a) (reading_begun (s + size l) r h.1 v b) b
 rest_goes s (sequence l r) h (inr p) y k =
-    elim (rest_goes (s + size l) r h.1 p y k) [ ends c ↦ ends c | steps q m z t w ↦ steps (inr q) m z t w ]
+    elim (rest_goes (s + size l) r h.1 p y k) as (λ z _. Goes s (sequence l r) (inr p) z)
+    [ ends c ↦ ends c | steps q m z t w ↦ steps (inr q) m z t w ]
 rest_goes s (repeat b lower upper) h p y (cat u v a (cat w z one f)) =
     goes_repeat h p u z (rest_goes s b h.0 p.0 u a) (further_next s b lower upper (reading_begun s b h.0) (suc p.1) z f) f
 

@@ -1,0 +1,6 @@
+use borrow.Author.Rules.{rules}
+use Rattle.codes.proofs.Pairs.{any_told}
+use Rattle.codes.proofs.any.Goals as goal
+
+pub returns : goal.returns
+returns c = any_told c.args.s _ _ c.union.ensures c.lowest.ensures.0

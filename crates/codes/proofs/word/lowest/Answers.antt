@@ -1,0 +1,5 @@
+use Rattle.codes.proofs.Digits.{trailing_lowest}
+use Rattle.codes.proofs.word.lowest.Goals as goal
+
+pub returns : goal.returns
+returns c = (trailing_lowest 64 c.args.w, c.ranges.w.fits)

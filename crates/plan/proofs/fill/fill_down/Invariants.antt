@@ -1,0 +1,16 @@
+use mathlib.Core.Path.{◌≡◌, refl}
+use Prim.Native.Nat.{◌+◌, ◌≤◌, ◌-◌}
+use native.Mathlib.Omega.{arith}
+use borrow.Author.Rules.{rules}
+use Rattle.meaning.specs.Node.{repeats_below}
+use Rattle.procedure.specs.Entry.{held}
+use Rattle.procedure.proofs.Nodes.{one_of}
+use Rattle.plan.specs.Filling.{down}
+use Rattle.plan.proofs.Links.{count_down, down_done, down_one}
+use Rattle.plan.proofs.fill.fill_down.Given as goal
+
+abbrev pub invariant-loop-i : goal.invariant-loop-i
+invariant-loop-i l = (l.i ≤ l.n) × (l.k ≡ repeats_below (held l.nodes) l.i) × (l.k ≤ 32) × (down l.nodes l.nulls l.plan l.i ≡ down l.nodes l.nulls l.initial.plan l.n)
+
+abbrev pub decreases-loop-i : goal.decreases-loop-i
+decreases-loop-i l = l.i

@@ -1,0 +1,7 @@
+use borrow.Author.Rules.{rules}
+use Rattle.plan.specs.Link.{rank_in}
+use Rattle.plan.proofs.link.rank_of.Goals as goal
+
+pub returns : goal.returns
+unfolding rank_in
+returns c = search rules

@@ -1,0 +1,7 @@
+use borrow.Author.Rules.{rules}
+use Rattle.plan.specs.Link.{ranked_in}
+use Rattle.plan.proofs.link.ranked.Goals as goal
+
+pub returns : goal.returns
+unfolding ranked_in
+returns c = search rules

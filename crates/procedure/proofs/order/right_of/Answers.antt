@@ -1,0 +1,7 @@
+use mathlib.Core.Path.{refl}
+use Rattle.procedure.specs.Entry.{unpacked}
+use Rattle.procedure.proofs.order.right_of.Goals as goal
+
+pub returns : goal.returns
+unfolding unpacked
+returns c = refl

@@ -1,0 +1,15 @@
+use mathlib.Core.Path.{sym, subst}
+use Prim.Native.Nat.{◌≤◌, ◌-◌}
+use native.Mathlib.Omega.{arith}
+use borrow.Author.Count.{below_none, below_more}
+use borrow.Author.Rules.{rules}
+use lib.ListN.{get_or}
+use Rattle.procedure.proofs.Deciding.{fails, holds}
+use Rattle.states.specs.Standing.{AllFit, FitsAt}
+use Rattle.states.proofs.Standing.{listed_inner}
+use Rattle.states.proofs.reached.all_fit.Goals as goal
+
+pub fits-requires : goal.fits-requires
+fits-requires c =
+    let inner = listed_inner c.requires.2 c.loop-k.k c.loop-k-test.true in
+    (omega (arith, c.wide.ensures), omega (arith, c.wide.ensures))

@@ -1,0 +1,10 @@
+use Prim.Native.Nat.{◌≤◌, ◌-◌}
+use borrow.Author.Rules.{rules}
+use Rattle.states.proofs.RightCounts.{ClearBelow, clear_none, clear_more, clear_all}
+use Rattle.states.proofs.reached.clear_from.Given as goal
+
+abbrev pub invariant-loop-j : goal.invariant-loop-j
+invariant-loop-j l = (l.k ≤ l.j) × ClearBelow l.counts l.k l.j
+
+abbrev pub decreases-loop-j : goal.decreases-loop-j
+decreases-loop-j l = 32 - l.j
