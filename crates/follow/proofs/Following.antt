@@ -28,15 +28,15 @@ use Rattle.states.proofs.Readiness.{read_spot, stood_long}
 
 -- ---- the answer
 
-follows_went : (f state events after : List ℕ) (e : Expr) (r : FollowAnswer) → Admitted f e → Went e state events r after → Follows f state events r after
-follows_went f state events after e r a (unreached none) = Follows.unreached e a none
-follows_went f state events after e r a (went k j t v s b g at) = going_follows f state events e k j t v a s b g at
+follows_went : (f state events : List ℕ) (e : Expr) (after : List ℕ) (r : FollowAnswer) → Admitted f e → Went e state events r after → Follows f state events r after
+follows_went f state events e after r a (unreached none) = Follows.unreached e a none
+follows_went f state events e after r a (went k j t v s b g at) = going_follows f state events e k j t v a s b g at
 
 -- of an admitted file, and its tables
 pub follows_entered : {f nodes starts : List ℕ} {nulls : List Bool} {list : List ℕ} {firsts : List (List ℕ)} {n r : ℕ} {state events after : List ℕ} {x : FollowAnswer}
     → Entered f nodes starts nulls list firsts n r → ((e : Expr) → Tables nodes starts nulls list n r e → Went e state events x after)
     → Follows f state events x after
-follows_entered o went_on = follows_went _ _ _ _ o.filled.expr _ o.admitted (went_on o.filled.expr o.filled.tables)
+follows_entered o went_on = follows_went _ _ _ o.filled.expr _ _ o.admitted (went_on o.filled.expr o.filled.tables)
 
 -- ---- the batch
 

@@ -1,0 +1,11 @@
+use mathlib.Core.Path.{sym, ◌∙◌}
+use native.Mathlib.Omega.{arith}
+use borrow.Author.Rules.{rules}
+use Rattle.record.proofs.Bytes.{item_in, item_past}
+use Rattle.record.proofs.items.item_at.Goals as goal
+
+pub returns-then-at-bytes : goal.returns-then-at-bytes
+returns-then-at-bytes c = let a = c.args in c.two_at.ensures.value ∙ sym (item_in a.bytes.now a.at (omega arith))
+
+pub returns : goal.returns
+returns c = let a = c.args in sym (item_past a.bytes.now a.at (omega arith))

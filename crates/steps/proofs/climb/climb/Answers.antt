@@ -1,0 +1,30 @@
+use mathlib.Core.Path.{subst, sym, ◌∙◌}
+use Prim.Native.Nat.{ℕ, ◌≤◌, ◌-◌}
+use native.Mathlib.Omega.{arith}
+use borrow.Author.Rules.{rules}
+use Rattle.steps.specs.Climb.{Climbs, past, turns, stops, on}
+use Rattle.plan.specs.Plan.{above_at}
+use Rattle.steps.specs.declared.climb.Turn.{Turn}
+use Rattle.steps.proofs.climb.climb.Goals as goal
+
+pub returns-in-Turns : goal.returns-in-Turns
+returns-in-Turns c =
+    c.loop-x.invariant.1 _ (turns c.loop-x-test.true (sym c.look_at.ensures ∙ c.in-Turns.is))
+
+pub returns-in-Stops : goal.returns-in-Stops
+returns-in-Stops c =
+    c.loop-x.invariant.1 _ (stops c.loop-x-test.true (sym c.look_at.ensures ∙ c.in-Stops.is))
+
+pub loop-x-preserved : goal.loop-x-preserved
+loop-x-preserved c =
+    let a = c.args in
+    let up = c.requires.rises c.loop-x.x c.loop-x-test.true in (
+      omega (arith, c.above_of-x-in-On.ensures.value),
+      λ r w.
+          c.loop-x.invariant.1 r
+          (on c.loop-x-test.true (sym c.look_at.ensures ∙ c.in-On.is)
+          (subst (λ (y : ℕ). Climbs a.nodes.now a.starts.now a.nulls.now a.plan.now a.counts.now a.n a.q y r) c.above_of-x-in-On.ensures.value w)),
+    )
+
+pub returns : goal.returns
+returns c = c.loop-x.invariant.1 _ (past c.loop-x-test.false)

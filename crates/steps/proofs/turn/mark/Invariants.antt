@@ -1,0 +1,15 @@
+use mathlib.Core.List.{List}
+use mathlib.Core.Path.{subst}
+use Prim.Native.Nat.{ℕ, ◌-◌}
+use native.Mathlib.Omega.{arith}
+use borrow.Author.Rules.{rules}
+use Rattle.steps.specs.Counts.{MarksUp, done}
+use Rattle.plan.specs.Plan.{above_at}
+use Rattle.steps.proofs.Tests.{mark_one}
+use Rattle.steps.proofs.turn.mark.Given as goal
+
+abbrev pub invariant-loop-y : goal.invariant-loop-y
+invariant-loop-y l = (z : List ℕ) → MarksUp l.nodes l.plan l.x l.y l.counts z → MarksUp l.nodes l.plan l.x (above_at l.plan l.q) l.initial.counts z
+
+abbrev pub decreases-loop-y : goal.decreases-loop-y
+decreases-loop-y l = l.x - l.y
