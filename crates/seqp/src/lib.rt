@@ -11,8 +11,7 @@ mod rows; // rows.rt: a refusal and a verdict as the request's numbers
 
 // Judge: 0 to 7; the node that is named; the kind and the lowest code of a conflict, all codes that it shares, 0 to 63 as the bits of
 // `low` and the others, less 64, as those of `high`, and how many they are; or 0.
-#[unsafe(no_mangle)]
-pub extern "C" fn seq_judge(
+pub fn seq_judge(
     file: &[u8],
     node: &mut u32,
     kind: &mut u32,
@@ -46,8 +45,7 @@ pub extern "C" fn seq_judge(
 }
 
 // Follow: 0 to 8; the number of events taken, and 0 complete, 1 unfinished, 2 broken.
-#[unsafe(no_mangle)]
-pub extern "C" fn seq_follow(
+pub fn seq_follow(
     file: &[u8],
     state: &mut [u8],
     events: &[u8],
@@ -69,8 +67,7 @@ pub extern "C" fn seq_follow(
 }
 
 // Write a record: 0 to 7 or 9 to 11; the length of the record in bytes, or 0.
-#[unsafe(no_mangle)]
-pub extern "C" fn seq_write(file: &[u8], run: &[u8], space: &mut [u8], length: &mut u64) -> u32
+pub fn seq_write(file: &[u8], run: &[u8], space: &mut [u8], length: &mut u64) -> u32
     ensures { WritePromise file.now run.now space.old (wrote result length.new) space.new }
 {
     *length = 0;
@@ -84,8 +81,7 @@ pub extern "C" fn seq_write(file: &[u8], run: &[u8], space: &mut [u8], length: &
 }
 
 // Check a record: 0 to 6; 1 for yes, 0 for no.
-#[unsafe(no_mangle)]
-pub extern "C" fn seq_check(file: &[u8], bytes: &[u8], yes: &mut u32) -> u32
+pub fn seq_check(file: &[u8], bytes: &[u8], yes: &mut u32) -> u32
     ensures { CheckPromise file.now bytes.now (checked result yes.new) }
 {
     *yes = 0;
@@ -100,8 +96,7 @@ pub extern "C" fn seq_check(file: &[u8], bytes: &[u8], yes: &mut u32) -> u32
 }
 
 // Prompt: 0 to 8; the codes to light: 0 to 63 as the bits of `low`, and the others, less 64, as those of `high`.
-#[unsafe(no_mangle)]
-pub extern "C" fn seq_prompt(file: &[u8], state: &[u8], low: &mut u64, high: &mut u64) -> u32
+pub fn seq_prompt(file: &[u8], state: &[u8], low: &mut u64, high: &mut u64) -> u32
     ensures { PromptPromise file.now state.now (prompted result low.new high.new) }
 {
     *low = 0;
