@@ -4,7 +4,7 @@
 mod stream; // stream.rt: letters and slices from standard input
 mod text; // text.rt: the line of an answer
 
-use libc::STDOUT_FILENO;
+use std::io::{self, Print, Read};
 use stream::{read_letter, read_slice};
 use text::{print_bytes, print_end, print_number};
 
@@ -15,8 +15,8 @@ const JUNK: u32 = 0xdead_beef;
 
 const WIDE_JUNK: u64 = 0xdead_beef_dead_beef;
 
-fn answer_judge(file: &mut [u8]) -> bool {
-    let length = read_slice(file);
+fn answer_judge<R: Read>(rt: &impl Print, input: &mut R, file: &mut [u8]) -> io::Result<bool> {
+    let length = read_slice(input, file);
     let mut node = JUNK;
     let mut kind = JUNK;
     let mut code = JUNK;
@@ -32,21 +32,28 @@ fn answer_judge(file: &mut [u8]) -> bool {
         &mut high,
         &mut count,
     );
-    io::write_all(STDOUT_FILENO, b"J");
-    print_number(answer as u64);
-    print_number(node as u64);
-    print_number(kind as u64);
-    print_number(code as u64);
-    print_number(low);
-    print_number(high);
-    print_number(count as u64);
-    print_end()
+    rt.write_all(b"J")?;
+    print_number(rt, answer as u64)?;
+    print_number(rt, node as u64)?;
+    print_number(rt, kind as u64)?;
+    print_number(rt, code as u64)?;
+    print_number(rt, low)?;
+    print_number(rt, high)?;
+    print_number(rt, count as u64)?;
+    print_end(rt)?;
+    Ok(true)
 }
 
-fn answer_follow(file: &mut [u8], state: &mut [u8], events: &mut [u8]) -> bool {
-    let length = read_slice(file);
-    let held = read_slice(state);
-    let count = read_slice(events);
+fn answer_follow<R: Read>(
+    rt: &impl Print,
+    input: &mut R,
+    file: &mut [u8],
+    state: &mut [u8],
+    events: &mut [u8],
+) -> io::Result<bool> {
+    let length = read_slice(input, file);
+    let held = read_slice(input, state);
+    let count = read_slice(input, events);
     let mut taken = WIDE_JUNK;
     let mut verdict = JUNK;
     let answer = seqp::seq_follow(
@@ -56,18 +63,25 @@ fn answer_follow(file: &mut [u8], state: &mut [u8], events: &mut [u8]) -> bool {
         &mut taken,
         &mut verdict,
     );
-    io::write_all(STDOUT_FILENO, b"F");
-    print_number(answer as u64);
-    print_number(taken);
-    print_number(verdict as u64);
-    print_bytes(state, held);
-    print_end()
+    rt.write_all(b"F")?;
+    print_number(rt, answer as u64)?;
+    print_number(rt, taken)?;
+    print_number(rt, verdict as u64)?;
+    print_bytes(rt, state, held)?;
+    print_end(rt)?;
+    Ok(true)
 }
 
-fn answer_write(file: &mut [u8], run: &mut [u8], space: &mut [u8]) -> bool {
-    let length = read_slice(file);
-    let events = read_slice(run);
-    let room = read_slice(space);
+fn answer_write<R: Read>(
+    rt: &impl Print,
+    input: &mut R,
+    file: &mut [u8],
+    run: &mut [u8],
+    space: &mut [u8],
+) -> io::Result<bool> {
+    let length = read_slice(input, file);
+    let events = read_slice(input, run);
+    let room = read_slice(input, space);
     let mut bytes = WIDE_JUNK;
     let answer = seqp::seq_write(
         &file[..length],
@@ -75,60 +89,86 @@ fn answer_write(file: &mut [u8], run: &mut [u8], space: &mut [u8]) -> bool {
         &mut space[..room],
         &mut bytes,
     );
-    io::write_all(STDOUT_FILENO, b"W");
-    print_number(answer as u64);
-    print_number(bytes);
-    print_bytes(space, room);
-    print_end()
+    rt.write_all(b"W")?;
+    print_number(rt, answer as u64)?;
+    print_number(rt, bytes)?;
+    print_bytes(rt, space, room)?;
+    print_end(rt)?;
+    Ok(true)
 }
 
-fn answer_check(file: &mut [u8], bytes: &mut [u8]) -> bool {
-    let length = read_slice(file);
-    let count = read_slice(bytes);
+fn answer_check<R: Read>(
+    rt: &impl Print,
+    input: &mut R,
+    file: &mut [u8],
+    bytes: &mut [u8],
+) -> io::Result<bool> {
+    let length = read_slice(input, file);
+    let count = read_slice(input, bytes);
     let mut yes = JUNK;
     let answer = seqp::seq_check(&file[..length], &bytes[..count], &mut yes);
-    io::write_all(STDOUT_FILENO, b"C");
-    print_number(answer as u64);
-    print_number(yes as u64);
-    print_end()
+    rt.write_all(b"C")?;
+    print_number(rt, answer as u64)?;
+    print_number(rt, yes as u64)?;
+    print_end(rt)?;
+    Ok(true)
 }
 
-fn answer_prompt(file: &mut [u8], state: &mut [u8]) -> bool {
-    let length = read_slice(file);
-    let held = read_slice(state);
+fn answer_prompt<R: Read>(
+    rt: &impl Print,
+    input: &mut R,
+    file: &mut [u8],
+    state: &mut [u8],
+) -> io::Result<bool> {
+    let length = read_slice(input, file);
+    let held = read_slice(input, state);
     let mut low = WIDE_JUNK;
     let mut high = WIDE_JUNK;
     let answer = seqp::seq_prompt(&file[..length], &state[..held], &mut low, &mut high);
-    io::write_all(STDOUT_FILENO, b"P");
-    print_number(answer as u64);
-    print_number(low);
-    print_number(high);
-    print_end()
+    rt.write_all(b"P")?;
+    print_number(rt, answer as u64)?;
+    print_number(rt, low)?;
+    print_number(rt, high)?;
+    print_end(rt)?;
+    Ok(true)
 }
 
 // Answers one call by its letter, and says whether there was one. There is a buffer for each slice that a call can have.
-fn answer_one(first: &mut [u8], second: &mut [u8], third: &mut [u8]) -> bool {
-    match read_letter() {
-        b'C' => answer_check(first, second),
-        b'F' => answer_follow(first, second, third),
-        b'J' => answer_judge(first),
-        b'P' => answer_prompt(first, second),
-        b'W' => answer_write(first, second, third),
-        _ => false,
+fn answer_one<R: Read>(
+    rt: &impl Print,
+    input: &mut R,
+    first: &mut [u8],
+    second: &mut [u8],
+    third: &mut [u8],
+) -> io::Result<bool> {
+    match read_letter(input) {
+        b'C' => answer_check(rt, input, first, second),
+        b'F' => answer_follow(rt, input, first, second, third),
+        b'J' => answer_judge(rt, input, first),
+        b'P' => answer_prompt(rt, input, first, second),
+        b'W' => answer_write(rt, input, first, second, third),
+        _ => Ok(false),
     }
 }
 
 // A proved loop has to end, and nothing says that a stream does: it counts its turns down from a number that no stream uses up.
-fn answer_all(first: &mut [u8], second: &mut [u8], third: &mut [u8]) {
+fn answer_all<R: Read>(
+    rt: &impl Print,
+    input: &mut R,
+    first: &mut [u8],
+    second: &mut [u8],
+    third: &mut [u8],
+) -> io::Result<()> {
     let mut turns = u64::MAX;
-    while turns > 0 && answer_one(first, second, third) {
+    while turns > 0 && answer_one(rt, input, first, second, third)? {
         turns -= 1;
     }
+    Ok(())
 }
 
-fn main() {
+fn main(rt: HostRuntime) -> io::Result<()> {
     let mut first = [0u8; MOST];
     let mut second = [0u8; MOST];
     let mut third = [0u8; MOST];
-    answer_all(&mut first, &mut second, &mut third);
+    answer_all(&rt, &mut rt.stdin(), &mut first, &mut second, &mut third)
 }

@@ -1,15 +1,14 @@
 // The line of an answer: numbers in decimal, bytes in hexadecimal.
-ghost use Rattle.std.specs.Prelude.{◌≡◌, ◌≤◌, ◌<◌, ◌+◌, min, length};
+ghost use Rattle.std.specs.Prelude.{◌≡◌, ◌≤◌, ◌<◌, ◌+◌, min, length, IfOk};
 
-use libc::STDOUT_FILENO;
+use std::io::{self, Print};
 
 // How many bytes are spelled at a time.
 const PIECE: usize = 2048;
 
 // A space and a number.
-pub fn print_number(n: u64) {
-    io::write_all(STDOUT_FILENO, b" ");
-    io::print_decimal(STDOUT_FILENO, n);
+pub fn print_number(rt: &impl Print, n: u64) -> io::Result<()> {
+    print!(rt; " {n}")
 }
 
 fn digit(d: u8) -> u8
@@ -46,42 +45,42 @@ fn least(a: usize, b: usize) -> usize
 }
 
 // Writes the first `count` bytes of the text.
-fn write_start(text: &[u8; 2 * PIECE], count: usize)
+fn write_start(rt: &impl Print, text: &[u8; 2 * PIECE], count: usize) -> io::Result<()>
     requires { count ≤ 4096 }
 {
     let whole = &text[..];
-    io::write_all(STDOUT_FILENO, &whole[0..count]);
+    rt.write_all(&whole[0..count])
 }
 
 // Prints a piece of the first `count` bytes from `at` on, and gives its length.
-fn print_piece(bytes: &[u8], at: usize, count: usize) -> usize
+fn print_piece(rt: &impl Print, bytes: &[u8], at: usize, count: usize) -> io::Result<usize>
     requires { (at < count) × (count ≤ length bytes.now) }
-    ensures { (0 < result) × (at + result ≤ count) }
+    ensures { IfOk result (λ n. (0 < n) × (at + n ≤ count)) }
 {
     let mut text = [0u8; 2 * PIECE];
     let n = least(count - at, PIECE);
     let end = at + n;
     spell(&bytes[at..end], &mut text);
-    write_start(&text, 2 * n);
-    n
+    write_start(rt, &text, 2 * n)?;
+    Ok(n)
 }
 
 // A space and the first `count` bytes, or a dash where there are none.
-pub fn print_bytes(bytes: &[u8], count: usize)
+pub fn print_bytes(rt: &impl Print, bytes: &[u8], count: usize) -> io::Result<()>
     requires { count ≤ length bytes.now }
 {
     if count == 0 {
-        io::write_all(STDOUT_FILENO, b" -");
-        return;
+        return rt.write_all(b" -");
     }
-    io::write_all(STDOUT_FILENO, b" ");
+    rt.write_all(b" ")?;
     let mut at = 0;
     while at < count {
-        at += print_piece(bytes, at, count);
+        at += print_piece(rt, bytes, at, count)?;
     }
+    Ok(())
 }
 
-// Ends the line, and says whether that could be written.
-pub fn print_end() -> bool {
-    io::write_all(STDOUT_FILENO, b"\n")
+// Ends the line.
+pub fn print_end(rt: &impl Print) -> io::Result<()> {
+    rt.write_all(b"\n")
 }
