@@ -6,7 +6,7 @@ use Prim.Native.Nat.{ℕ, suc, ◌+◌, ◌-◌, ◌≤◌, ◌<◌}
 use native.Mathlib.Omega.{arith}
 use borrow.Author.Tests.{eq-eqb, ne_eqb, lt-ltb, le-ltb}
 use lib.ListN.{get_or}
-use Rattle.meaning.specs.Node.{Node, node, is_repeat, repeats_below}
+use Rattle.meaning.specs.Node.{Node, is_repeat, repeats_below}
 use Rattle.meaning.proofs.File.Ranks.{more_below}
 use Rattle.procedure.specs.Entry.{held, kind_of, left_of}
 use Rattle.plan.specs.Plan.{above_at, begins_at}

@@ -21,7 +21,6 @@ use Rattle.meaning.proofs.Places.Directly.{place_part}
 use Rattle.meaning.proofs.State.StateBytes.{bytes_reached_iff}
 use Rattle.procedure.specs.Entry.{held, kind_of}
 use Rattle.procedure.specs.Listing.{Listing, Tables}
-use Rattle.judge.specs.declared.Admission.TheVariants as admission
 use Rattle.states.specs.declared.reached.Read.{Read}
 use Rattle.states.specs.declared.reached.Read.TheVariants as read
 use Rattle.states.specs.StateBytes.{Decoded}

@@ -8,7 +8,7 @@ use lib.ListN.{length, drop, get_or, length-drop}
 use lib.Seq.{drop-length}
 use Rattle.meaning.specs.declared.CheckAnswer.TheVariants as answer
 use Rattle.meaning.specs.Bytes.{in_twos}
-use Rattle.meaning.specs.Expr.{Expr, size, root}
+use Rattle.meaning.specs.Expr.{Expr, size}
 use Rattle.meaning.specs.Promises.{Checks}
 use Rattle.meaning.specs.Reading.{Item, Reading}
 use Rattle.meaning.specs.Record.{item_number, record_bytes}

@@ -1,4 +1,3 @@
-use borrow.Author.Rules.{rules}
 use Rattle.codes.proofs.Pairs.{any_told}
 use Rattle.codes.proofs.any.Goals as goal
 

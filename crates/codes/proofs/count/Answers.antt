@@ -1,5 +1,4 @@
 use native.Mathlib.Omega.{arith}
-use borrow.Author.Rules.{rules}
 use Rattle.meaning.proofs.General.Properties.{count_most}
 use Rattle.codes.proofs.Pairs.{count_in_words}
 use Rattle.codes.proofs.count.Goals as goal

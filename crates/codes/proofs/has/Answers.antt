@@ -1,5 +1,4 @@
 use native.Mathlib.Omega.{arith}
-use borrow.Author.Rules.{rules}
 use Rattle.codes.proofs.Pairs.{high_told, low_told}
 use Rattle.codes.proofs.has.Goals as goal
 

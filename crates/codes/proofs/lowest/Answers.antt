@@ -1,6 +1,3 @@
-use mathlib.Core.Logic.{⊎_elim}
-use native.Mathlib.Omega.{arith}
-use borrow.Author.Rules.{rules}
 use Rattle.codes.proofs.Pairs.{lowest_in_high, lowest_in_low}
 use Rattle.codes.proofs.lowest.Goals as goal
 

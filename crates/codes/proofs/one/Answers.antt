@@ -1,5 +1,4 @@
 use native.Mathlib.Omega.{arith}
-use borrow.Author.Rules.{rules}
 use Rattle.codes.proofs.Pairs.{high_only, low_only}
 use Rattle.codes.proofs.one.Goals as goal
 

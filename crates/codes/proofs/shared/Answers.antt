@@ -1,4 +1,3 @@
-use borrow.Author.Rules.{rules}
 use Rattle.codes.proofs.Pairs.{shared_contains}
 use Rattle.codes.proofs.shared.Goals as goal
 

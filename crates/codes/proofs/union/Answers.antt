@@ -1,4 +1,3 @@
-use borrow.Author.Rules.{rules}
 use Rattle.codes.proofs.Pairs.{union_contains}
 use Rattle.codes.proofs.union.Goals as goal
 

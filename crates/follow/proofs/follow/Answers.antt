@@ -1,6 +1,5 @@
-use borrow.Author.Rules.{rules}
 use Rattle.meaning.specs.Promises.{Follows}
-use Rattle.judge.proofs.Entering.{barred, entered, entered_tables}
+use Rattle.judge.proofs.Entering.{barred, entered}
 use Rattle.follow.proofs.Following.{follows_entered}
 use Rattle.follow.proofs.follow.Goals as goal
 

@@ -1,10 +1,5 @@
-use mathlib.Core.Bool.{Bool}
-use mathlib.Core.List.{List}
-use Prim.Native.Nat.{ℕ}
 use native.Mathlib.Omega.{arith}
-use borrow.Author.Rules.{rules}
-use Rattle.procedure.specs.Opening.{Filled}
-use Rattle.judge.proofs.Admissions.{admits_neither, admits_nodes, admits_not, filled}
+use Rattle.judge.proofs.Admissions.{admits_neither, admits_nodes, admits_not}
 use Rattle.judge.proofs.admit.Goals as goal
 
 pub returns-then-code-lt-LIMIT : goal.returns-then-code-lt-LIMIT

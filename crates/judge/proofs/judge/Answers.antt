@@ -1,4 +1,3 @@
-use borrow.Author.Rules.{rules}
 use Rattle.judge.proofs.Admissions.{judges_admitted, judges_refused}
 use Rattle.judge.proofs.judge.Goals as goal
 

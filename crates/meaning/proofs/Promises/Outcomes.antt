@@ -22,7 +22,7 @@ use Rattle.meaning.specs.Strong.{StronglyDeterministic}
 use Rattle.meaning.specs.Reading.{Item, Reading, codes}
 use Rattle.meaning.specs.Codes.{SetInWords}
 use Rattle.meaning.specs.Bytes.{two_at}
-use Rattle.meaning.specs.File.{Refused, Admitted}
+use Rattle.meaning.specs.File.{Admitted}
 use Rattle.meaning.specs.State.{state_bytes, ReachesBytes}
 use Rattle.meaning.specs.Record.{record_bytes}
 use Rattle.meaning.specs.Numbers.{JudgeNumbers, judge_numbers, FollowNumbers, follow_numbers, WriteNumbers, write_numbers, CheckNumbers, check_numbers, PromptNumbers, prompt_numbers}

@@ -1,15 +1,10 @@
 use mathlib.Core.Path.{subst}
-use mathlib.Core.List.{List}
-use Prim.Native.Nat.{ℕ, ◌≤◌, ◌<◌}
 use native.Mathlib.Omega.{arith}
-use borrow.Author.Rules.{rules}
-use Rattle.meaning.specs.Node.{InTable}
-use Rattle.meaning.specs.File.{Framed, Lettered, Measured, Sized, by_letters, by_measures, by_size}
+use Rattle.meaning.specs.File.{by_letters, by_measures, by_size}
 use Rattle.procedure.specs.Entry.{held}
-use Rattle.procedure.specs.Listing.{TellsStarts}
 use Rattle.procedure.specs.Repeats.{Counts}
 use Rattle.procedure.proofs.Deciding.{fails, holds}
-use Rattle.procedure.proofs.Openings.{OnePart, filled, off_table, out_of_order, tested_whole, too_many}
+use Rattle.procedure.proofs.Openings.{filled, off_table, out_of_order, tested_whole, too_many}
 use Rattle.procedure.proofs.Orders.{starts_ordered}
 use Rattle.procedure.proofs.read.Goals as goal
 

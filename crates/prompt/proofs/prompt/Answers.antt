@@ -1,6 +1,5 @@
-use borrow.Author.Rules.{rules}
 use Rattle.meaning.specs.Promises.{Prompts}
-use Rattle.judge.proofs.Entering.{barred, entered}
+use Rattle.judge.proofs.Entering.{barred}
 use Rattle.prompt.proofs.prompt.Goals as goal
 
 pub returns-in-Refused : goal.returns-in-Refused

@@ -1,7 +1,5 @@
 use mathlib.Core.Path.{subst}
-use borrow.Author.Rules.{rules}
 use Rattle.meaning.specs.Promises.{Checks}
-use Rattle.procedure.specs.declared.Opened.{Opened}
 use Rattle.procedure.specs.declared.Opened.TheVariants.{Nodes}
 use Rattle.procedure.specs.Opening.{Opens}
 use Rattle.record.specs.Walk.{RecordOf}

@@ -1,11 +1,9 @@
 use mathlib.Core.Path.{subst}
 use Prim.Native.Nat.{◌+◌, ◌-◌}
 use native.Mathlib.Omega.{arith}
-use borrow.Author.Rules.{rules}
 use Rattle.procedure.specs.Entry.{held}
 use Rattle.procedure.proofs.Empties.{nulls_fewer}
-use Rattle.procedure.proofs.Nodes.{listing_root, listing_some, one_of}
-use Rattle.record.specs.declared.walk.Taken.{Taken}
+use Rattle.procedure.proofs.Nodes.{listing_some, one_of}
 use Rattle.record.specs.declared.walk.Taken.TheVariants.{To}
 use Rattle.record.specs.Walk.{EatsAt, Onward, items_in}
 use Rattle.record.proofs.Answers.{all_yes, more_no, odd-no, stuck-no}

@@ -1,4 +1,3 @@
-use borrow.Author.Rules.{rules}
 use mathlib.Core.Path.{refl}
 use Rattle.meaning.specs.Numbers.{checked, check_numbers}
 use Rattle.meaning.specs.Promises.{CheckPromise}

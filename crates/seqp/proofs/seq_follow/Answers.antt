@@ -1,4 +1,3 @@
-use borrow.Author.Rules.{rules}
 use Rattle.meaning.specs.Numbers.{followed, follow_numbers}
 use Rattle.meaning.specs.Promises.{FollowPromise}
 use Rattle.seqp.proofs.Laws.{arm}

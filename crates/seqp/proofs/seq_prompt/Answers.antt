@@ -1,4 +1,3 @@
-use borrow.Author.Rules.{rules}
 use mathlib.Core.Path.{refl}
 use Rattle.meaning.specs.Numbers.{prompted, prompt_numbers}
 use Rattle.meaning.specs.Promises.{PromptPromise}

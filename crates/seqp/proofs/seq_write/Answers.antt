@@ -1,4 +1,3 @@
-use borrow.Author.Rules.{rules}
 use mathlib.Core.Path.{refl}
 use Rattle.meaning.specs.Numbers.{write_numbers, wrote}
 use Rattle.meaning.specs.Promises.{WritePromise}

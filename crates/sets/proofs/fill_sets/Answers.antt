@@ -1,18 +1,15 @@
 use mathlib.Core.Path.{◌≡◌, refl, sym, subst}
-use Prim.Native.Nat.{ℕ, ◌+◌, ◌-◌, ◌≤◌, ◌<◌}
+use Prim.Native.Nat.{ℕ, ◌+◌, ◌≤◌, ◌<◌}
 use native.Mathlib.Omega.{arith}
-use borrow.Author.Rules.{rules}
-use lib.ListN.{length, length-set}
+use lib.ListN.{length-set}
 use Rattle.meaning.specs.Conflict.{ConflictAt}
 use Rattle.meaning.specs.Expr.{Expr}
-use Rattle.meaning.specs.Node.{Node}
 use Rattle.meaning.specs.Sets.{First, After}
 use Rattle.procedure.specs.Entry.{held}
 use Rattle.procedure.specs.Listing.{Listing}
 use Rattle.procedure.proofs.Empties.{nulls_fewer}
 use Rattle.procedure.proofs.Nodes.{listing_some, one_of}
 use Rattle.sets.specs.Lowest.{Lowest}
-use Rattle.sets.specs.Tables.{TellsSets}
 use Rattle.sets.proofs.Passing.{BelowNode, after_at, first_at, found_all, found_before, found_here, found_none}
 use Rattle.sets.proofs.Tables.{sets_more, sets_none}
 use Rattle.sets.proofs.fill_sets.Goals as goal
@@ -64,16 +61,16 @@ loop-i-preserved c =
     let some : 1 ≤ c.args.n = listing_some c.requires.listing.1 in
     let inside : c.loop-i.i < c.args.n = omega (arith, some) in
     let found-next : (e : Expr) → Listing c.args.nodes.now c.args.n e → Lowest (BelowNode (c.loop-i.i + 1) (ConflictAt 0 e)) c.if-is_one.found = λ e l.
-      let i = c.loop-i.i in
-      let x = c.sets_at-own.result in
-      let R = BelowNode (i + 1) (ConflictAt 0 e) in
-      let some = c.is_one in
-      let had = c.is_one-in-loop-i in
-      elim c.if-is_one.branch [
-        then-is_one w ↦ subst (Lowest R) (sym w.found-is) (found_here e l i inside x c.sets_at-own.ensures (c.loop-i.invariant.5 e l) some.result had.result had.ensures w.if-is_one.true)
-        | else-is_one w ↦ subst (Lowest R) (sym w.found-is)
+    let i = c.loop-i.i in
+    let x = c.sets_at-own.result in
+    let R = BelowNode (i + 1) (ConflictAt 0 e) in
+    let some = c.is_one in
+    let had = c.is_one-in-loop-i in
+    elim c.if-is_one.branch [
+      | then-is_one w ↦ subst (Lowest R) (sym w.found-is) (found_here e l i inside x c.sets_at-own.ensures (c.loop-i.invariant.5 e l) some.result had.result had.ensures w.if-is_one.true)
+      | else-is_one w ↦ subst (Lowest R) (sym w.found-is)
           (found_before e l i inside x c.sets_at-own.ensures (c.loop-i.invariant.5 e l) some.result had.result some.ensures had.ensures w.if-is_one.false)
-      ] in
+    ] in
     let i = c.loop-i.i in
     let x = c.sets_at-own.result in (
       omega arith,

@@ -1,25 +1,18 @@
-use mathlib.Core.Logic.{⊎_elim}
-use mathlib.Core.Path.{◌≡◌, refl, sym, subst}
-use Prim.Native.Nat.{ℕ, ◌+◌, ◌-◌, ◌≤◌, ◌<◌}
-use native.Mathlib.Omega.{arith}
-use borrow.Author.Rules.{rules}
-use lib.ListN.{length, length-set}
+use mathlib.Core.Path.{◌≡◌}
+use Prim.Native.Nat.{◌-◌, ◌≤◌}
+use lib.ListN.{length}
 use Rattle.meaning.specs.Conflict.{ConflictAt}
 use Rattle.meaning.specs.Expr.{Expr}
-use Rattle.meaning.specs.Node.{Node}
 use Rattle.meaning.specs.Sets.{First, After}
 use Rattle.procedure.specs.Entry.{held}
 use Rattle.procedure.specs.Listing.{Listing}
-use Rattle.procedure.proofs.Empties.{nulls_fewer}
-use Rattle.procedure.proofs.Nodes.{listing_some, one_of}
 use Rattle.sets.specs.Lowest.{Lowest}
 use Rattle.sets.specs.Tables.{TellsSets}
-use Rattle.sets.proofs.Passing.{BelowNode, after_at, first_at, found_all, found_before, found_here, found_none}
-use Rattle.sets.proofs.Tables.{sets_more, sets_none}
+use Rattle.sets.proofs.Passing.{BelowNode}
 use Rattle.sets.proofs.fill_sets.Given as goal
 
 abbrev pub invariant-loop-i : goal.invariant-loop-i
-invariant-loop-i l = 
+invariant-loop-i l =
     (l.i ≤ l.n) × (length l.firsts ≡ length l.initial.firsts) × (length l.afters ≡ length l.initial.afters) × TellsSets First (held l.nodes) l.firsts l.i × TellsSets After (held l.nodes) l.afters l.i
     × ((e : Expr) → Listing l.nodes l.n e → Lowest (BelowNode l.i (ConflictAt 0 e)) l.found)
 

@@ -1,9 +1,7 @@
-use Prim.Native.Nat.{ℕ, ◌≤◌, ◌<◌}
+use Prim.Native.Nat.{◌≤◌, ◌<◌}
 use native.Mathlib.Omega.{arith}
-use borrow.Author.Rules.{rules}
-use Rattle.meaning.specs.Node.{Node}
 use Rattle.procedure.specs.Entry.{held}
-use Rattle.procedure.proofs.Nodes.{one_in_table, one_ordered, one_small}
+use Rattle.procedure.proofs.Nodes.{one_ordered, one_small}
 use Rattle.procedure.proofs.Standing.{last_order, left_lower}
 use Rattle.sets.proofs.Standing.{choice_at, leaf_at, repeat_at, sequence_at}
 use Rattle.sets.proofs.sets_at.Goals as goal

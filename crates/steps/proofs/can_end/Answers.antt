@@ -1,6 +1,5 @@
 use mathlib.Core.Path.{refl}
 use native.Mathlib.Nat.{le_refl}
-use borrow.Author.Rules.{rules}
 use Rattle.plan.proofs.Beginnings.{past}
 use Rattle.steps.proofs.Stepping.{end_yes, end_no, at_not_ends, stuck_not_ends}
 use Rattle.plan.proofs.Whole.{rises}

@@ -1,7 +1,5 @@
 use mathlib.Core.Bool.{true, false, true≢false, false≢true}
 use mathlib.Core.Path.{refl, sym, ◌∙◌}
-use native.Mathlib.Omega.{arith}
-use borrow.Author.Rules.{rules}
 use Rattle.steps.proofs.Stepping.{start_by_test}
 use Rattle.plan.proofs.Whole.{rises}
 use Rattle.steps.proofs.start.Goals as goal

@@ -1,6 +1,5 @@
 use mathlib.Core.Logic.{inl, inr}
 use native.Mathlib.Omega.{arith}
-use borrow.Author.Rules.{rules}
 use Rattle.steps.proofs.Stepping.{climbs_at, step_turns, step_stays}
 use Rattle.plan.proofs.Whole.{rises}
 use Rattle.steps.proofs.step.Goals as goal

@@ -1,7 +1,6 @@
 use mathlib.Core.Path.{◌≡◌}
 use Prim.Native.Nat.{ℕ, ◌/◌, ◌%◌, ◌^◌}
 use native.Mathlib.Omega.{arith}
-use borrow.Author.Rules.{rules}
 use borrow.Author.Tests.{eq-eqb, eqb-true}
 use Rattle.meaning.specs.Codes.{Has}
 use Rattle.meaning.proofs.General.CodeSets.{has_below}

@@ -1,13 +1,11 @@
-use mathlib.Core.List.{List}
-use Prim.Native.Nat.{ℕ, ◌≤◌}
+use Prim.Native.Nat.{◌≤◌}
 use native.Mathlib.Omega.{arith}
-use borrow.Author.Rules.{rules}
 use Rattle.meaning.specs.Expr.{Expr}
 use Rattle.procedure.specs.Listing.{Tables}
 use Rattle.plan.specs.Plan.{Plans}
 use Rattle.states.specs.Standing.{ReadOf}
 use Rattle.states.proofs.Readiness.{read_below, read_long, tables_repeats}
-use Rattle.follow.proofs.Following.{ran_long, went_nowhere, went_on}
+use Rattle.follow.proofs.Following.{went_nowhere, went_on}
 use Rattle.follow.proofs.batch.go_on.Goals as goal
 
 pub returns-in_default : goal.returns-in_default

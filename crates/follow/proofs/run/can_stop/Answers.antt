@@ -1,6 +1,3 @@
-use native.Mathlib.Omega.{arith}
-use borrow.Author.Rules.{rules}
-use Rattle.procedure.proofs.Nodes.{listing_some}
 use Rattle.follow.proofs.Running.{stop_start, stop_place}
 use Rattle.follow.proofs.run.can_stop.Goals as goal
 

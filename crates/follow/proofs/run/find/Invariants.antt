@@ -1,10 +1,6 @@
 use mathlib.Core.Path.{◌≡◌}
 use Prim.Native.Nat.{ℕ, ◌≤◌, ◌<◌, ◌-◌}
-use native.Mathlib.Omega.{arith}
-use borrow.Author.Count.{below_more}
-use borrow.Author.Rules.{rules}
 use lib.ListN.{get_or}
-use Rattle.follow.proofs.Running.{found_here, found_none}
 use Rattle.follow.proofs.run.find.Given as goal
 
 abbrev pub invariant-loop-q : goal.invariant-loop-q

@@ -1,4 +1,3 @@
-use borrow.Author.Rules.{rules}
 use Rattle.follow.proofs.Running.{from_start, from_place}
 use Rattle.follow.proofs.run.go_to.Goals as goal
 

@@ -1,14 +1,8 @@
-use mathlib.Core.Path.{◌≡◌, subst}
+use mathlib.Core.Path.{subst}
 use mathlib.Core.List.{List}
-use Prim.Native.Nat.{ℕ, ◌≤◌, ◌<◌, ◌-◌}
-use native.Mathlib.Omega.{arith}
-use borrow.Author.Rules.{rules}
-use lib.ListN.{get_or}
-use Rattle.meaning.specs.Expr.{Expr}
-use Rattle.meaning.specs.Theory.Spots.{Spot}
-use Rattle.plan.specs.Plan.{Plans}
+use Prim.Native.Nat.{ℕ}
 use Rattle.states.specs.Standing.{AtSpot}
-use Rattle.follow.proofs.Running.{Passed, passed_none, passed_more, nexted_goes, nexted_stays, wanted_kind}
+use Rattle.follow.proofs.Running.{passed_more, nexted_goes, nexted_stays, wanted_kind}
 use Rattle.follow.proofs.run.next.Goals as goal
 
 pub returns-then-go_to-clause-nexted : goal.returns-then-go_to-clause-nexted
@@ -16,16 +10,15 @@ returns-then-go_to-clause-nexted c =
     let a = c.args in
     let below = c.loop-q-test.true in
     let here = c.loop-q.invariant.1 below in λ e k pl s.
-          nexted_goes a.nodes.now a.n e k a.code c.event_of-wanted.result c.loop-q.q _ a.counts.now c.loop-q.counts _ pl.listing
-          c.event_of-wanted.ensures.code_bound c.event_of-wanted.ensures.value below here c.if-go_to.true
-          (c.go_to.ensures e k pl (wanted_kind a.nodes.now a.code c.event_of-wanted.result c.loop-q.q c.event_of-wanted.ensures.code_bound c.event_of-wanted.ensures.value here)
-          (subst (λ (x : List ℕ). AtSpot e k a.node x) (c.loop-q.invariant.2 e k pl s).same s))
+    nexted_goes a.nodes.now a.n e k a.code c.event_of-wanted.result c.loop-q.q _ a.counts.now c.loop-q.counts _ pl.listing
+    c.event_of-wanted.ensures.code_bound c.event_of-wanted.ensures.value below here c.if-go_to.true
+    (c.go_to.ensures e k pl (wanted_kind a.nodes.now a.code c.event_of-wanted.result c.loop-q.q c.event_of-wanted.ensures.code_bound c.event_of-wanted.ensures.value here)
+    (subst (λ (x : List ℕ). AtSpot e k a.node x) (c.loop-q.invariant.2 e k pl s).same s))
 
 pub loop-q-preserved : goal.loop-q-preserved
 loop-q-preserved c =
     let a = c.args in
-    let here = c.loop-q.invariant.1 c.loop-q-test.true in
-    (
+    let here = c.loop-q.invariant.1 c.loop-q-test.true in (
       c.find-q-in-loop-q.ensures.within,
       c.find-q-in-loop-q.ensures.here,
       λ e k pl s.
@@ -39,7 +32,7 @@ loop-q-preserved c =
 pub returns-clause-nexted : goal.returns-clause-nexted
 returns-clause-nexted c =
     let a = c.args in λ e k pl s.
-          nexted_stays a.nodes.now a.n e k a.code c.event_of-wanted.result c.loop-q.q a.counts.now _ pl.listing
-          c.event_of-wanted.ensures.value
-          c.loop-q-test.false
-          (c.loop-q.invariant.2 e k pl s)
+    nexted_stays a.nodes.now a.n e k a.code c.event_of-wanted.result c.loop-q.q a.counts.now _ pl.listing
+    c.event_of-wanted.ensures.value
+    c.loop-q-test.false
+    (c.loop-q.invariant.2 e k pl s)

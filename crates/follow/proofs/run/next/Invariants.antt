@@ -1,18 +1,15 @@
-use mathlib.Core.Path.{◌≡◌, subst}
-use mathlib.Core.List.{List}
-use Prim.Native.Nat.{ℕ, ◌≤◌, ◌<◌, ◌-◌}
-use native.Mathlib.Omega.{arith}
-use borrow.Author.Rules.{rules}
+use mathlib.Core.Path.{◌≡◌}
+use Prim.Native.Nat.{◌≤◌, ◌<◌, ◌-◌}
 use lib.ListN.{get_or}
 use Rattle.meaning.specs.Expr.{Expr}
 use Rattle.meaning.specs.Theory.Spots.{Spot}
 use Rattle.plan.specs.Plan.{Plans}
 use Rattle.states.specs.Standing.{AtSpot}
-use Rattle.follow.proofs.Running.{Passed, passed_none, passed_more, nexted_goes, nexted_stays, wanted_kind}
+use Rattle.follow.proofs.Running.{Passed}
 use Rattle.follow.proofs.run.next.Given as goal
 
 abbrev pub invariant-loop-q : goal.invariant-loop-q
-invariant-loop-q l = 
+invariant-loop-q l =
     (l.q ≤ l.n)
     × (l.q < l.n → get_or l.nodes l.q 0 ≡ l.wanted)
     × ((e : Expr) (k : Spot e) → Plans l.nodes l.starts l.nulls l.plan l.n e → AtSpot e k l.node l.initial.counts → Passed l.nodes e k l.wanted l.q l.initial.counts l.counts)

@@ -1,13 +1,10 @@
-use mathlib.Core.Path.{refl}
 use Prim.Native.Nat.{◌≤◌, ◌-◌}
-use native.Mathlib.Omega.{arith}
-use borrow.Author.Rules.{rules}
 use lib.ListN.{length}
 use Rattle.meaning.specs.Expr.{Expr}
 use Rattle.meaning.specs.Theory.Spots.{Spot}
 use Rattle.plan.specs.Plan.{Plans}
 use Rattle.states.specs.Standing.{AtSpot}
-use Rattle.follow.proofs.Running.{Along, along_none, along_more, ran_stuck, ran_all}
+use Rattle.follow.proofs.Running.{Along}
 use Rattle.follow.proofs.run.run.Given as goal
 
 abbrev pub invariant-loop-taken : goal.invariant-loop-taken

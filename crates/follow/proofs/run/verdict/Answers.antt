@@ -1,4 +1,3 @@
-use borrow.Author.Rules.{rules}
 use Rattle.meaning.specs.Theory.Runs.{broken_at}
 use Rattle.follow.proofs.Running.{stands_complete, stands_unfinished}
 use Rattle.follow.proofs.run.verdict.Goals as goal

@@ -1,12 +1,8 @@
-use mathlib.Core.Path.{◌≡◌, refl}
-use Prim.Native.Nat.{◌+◌, ◌≤◌, ◌-◌}
-use native.Mathlib.Omega.{arith}
-use borrow.Author.Rules.{rules}
+use mathlib.Core.Path.{◌≡◌}
+use Prim.Native.Nat.{◌≤◌}
 use Rattle.meaning.specs.Node.{repeats_below}
 use Rattle.procedure.specs.Entry.{held}
-use Rattle.procedure.proofs.Nodes.{one_of}
 use Rattle.plan.specs.Filling.{down}
-use Rattle.plan.proofs.Links.{count_down, down_done, down_one}
 use Rattle.plan.proofs.fill.fill_down.Given as goal
 
 abbrev pub invariant-loop-i : goal.invariant-loop-i

@@ -1,4 +1,3 @@
-use borrow.Author.Rules.{rules}
 use Rattle.procedure.proofs.Nodes.{listing_some}
 use Rattle.plan.proofs.Whole.{plans_made}
 use Rattle.plan.proofs.fill.fill_plan.Goals as goal

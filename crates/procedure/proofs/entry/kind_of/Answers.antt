@@ -1,4 +1,3 @@
-use borrow.Author.Rules.{rules}
 use mathlib.Core.Path.{refl}
 use Rattle.procedure.specs.Entry.{unpacked}
 use Rattle.procedure.proofs.entry.kind_of.Goals as goal

@@ -1,10 +1,6 @@
-use mathlib.Core.Path.{◌≡◌, refl, subst}
-use Prim.Native.Nat.{◌≤◌, ◌-◌}
 use native.Mathlib.Omega.{arith}
-use borrow.Author.Count.{below_none}
 use borrow.Author.Rules.{rules}
-use lib.ListN.{length, length-set}
-use Rattle.procedure.specs.Entry.{Tied}
+use lib.ListN.{length-set}
 use Rattle.procedure.proofs.Entries.{tied_more}
 use Rattle.procedure.proofs.fill.fill.Goals as goal
 

@@ -1,11 +1,7 @@
-use mathlib.Core.Path.{◌≡◌, refl, subst}
+use mathlib.Core.Path.{◌≡◌}
 use Prim.Native.Nat.{◌≤◌, ◌-◌}
-use native.Mathlib.Omega.{arith}
-use borrow.Author.Count.{below_none}
-use borrow.Author.Rules.{rules}
-use lib.ListN.{length, length-set}
+use lib.ListN.{length}
 use Rattle.procedure.specs.Entry.{Tied}
-use Rattle.procedure.proofs.Entries.{tied_more}
 use Rattle.procedure.proofs.fill.fill.Given as goal
 
 abbrev pub invariant-loop-i : goal.invariant-loop-i

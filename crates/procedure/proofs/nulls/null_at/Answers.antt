@@ -1,10 +1,6 @@
-use Prim.Native.Nat.{ℕ, ◌≤◌, ◌<◌}
-use native.Mathlib.Omega.{arith}
-use borrow.Author.Rules.{rules}
-use Rattle.meaning.specs.Node.{Node}
 use Rattle.procedure.specs.Entry.{held}
 use Rattle.procedure.proofs.Empties.{null_leaf, null_repeat, null_choice, null_sequence}
-use Rattle.procedure.proofs.Standing.{last_order, left_lower}
+use Rattle.procedure.proofs.Standing.{last_order}
 use Rattle.procedure.proofs.nulls.null_at.Goals as goal
 
 pub returns-then-kind-lt-CHOICE : goal.returns-then-kind-lt-CHOICE

@@ -1,12 +1,8 @@
-use mathlib.Core.Path.{◌≡◌, refl, subst}
+use mathlib.Core.Path.{◌≡◌}
 use Prim.Native.Nat.{◌≤◌, ◌-◌}
-use native.Mathlib.Omega.{arith}
-use borrow.Author.Rules.{rules}
-use lib.ListN.{length, length-set}
+use lib.ListN.{length}
 use Rattle.procedure.specs.Entry.{held}
-use Rattle.procedure.specs.Listing.{Spans, TellsStarts}
-use Rattle.procedure.specs.Order.{StartsAt, broken}
-use Rattle.procedure.proofs.Orders.{late_start, spans_below, starts_more, starts_none, starts_ordered, whole_start}
+use Rattle.procedure.specs.Listing.{TellsStarts}
 use Rattle.procedure.proofs.order.lowest_out_of_order.Given as goal
 
 abbrev pub invariant-loop-i : goal.invariant-loop-i

@@ -1,11 +1,9 @@
-use mathlib.Core.Path.{◌≡◌, sym, subst, ◌∙◌}
-use Prim.Native.Nat.{ℕ, ◌-◌, ◌<◌}
+use mathlib.Core.Path.{sym, subst}
+use Prim.Native.Nat.{ℕ, ◌-◌}
 use native.Mathlib.Omega.{arith}
-use lib.ListN.{get_or}
-use borrow.Author.Rules.{rules}
 use Rattle.procedure.specs.Entry.{held}
 use Rattle.procedure.specs.Listing.{Spans}
-use Rattle.procedure.proofs.Orders.{spans_below, leaf_spans, repeat_spans, pair_spans, childless, body_off, right_off, left_off, start_told}
+use Rattle.procedure.proofs.Orders.{spans_below, leaf_spans, repeat_spans, pair_spans, left_off, start_told}
 use Rattle.procedure.proofs.order.start_of.Goals as goal
 
 pub returns-then-kind-lt-CHOICE : goal.returns-then-kind-lt-CHOICE

@@ -1,13 +1,11 @@
 use mathlib.Core.Path.{◌≡◌, refl, sym, ap, subst, ◌∙◌}
 use mathlib.Core.List.{List}
-use Prim.Native.Nat.{ℕ, ◌+◌, ◌≤◌, ◌-◌}
+use Prim.Native.Nat.{ℕ, ◌+◌, ◌≤◌}
 use native.Mathlib.Omega.{arith}
-use borrow.Author.Rules.{rules}
 use lib.ListN.{length, length-set}
-use Rattle.meaning.specs.Node.{Node}
-use Rattle.procedure.specs.Entry.{held, kind_of}
-use Rattle.procedure.specs.Listing.{TellsNulls, TellsRepeats}
-use Rattle.procedure.proofs.Counting.{repeats_more, repeats_none, repeats_over, repeats_same}
+use Rattle.procedure.specs.Entry.{held}
+use Rattle.procedure.specs.Listing.{TellsRepeats}
+use Rattle.procedure.proofs.Counting.{repeats_more, repeats_none, repeats_same}
 use Rattle.procedure.proofs.Empties.{nulls_more, nulls_none}
 use Rattle.procedure.proofs.repeats.list_repeats.Goals as goal
 use Rattle.procedure.proofs.repeats.list_repeats.Goals.{then-kind-eq-REPEAT+else-count-ge-MOST_REPEATS, else-kind-eq-REPEAT}
@@ -22,20 +20,20 @@ loop-i-preserved c =
     let list = c.if-kind-eq-REPEAT.repeats in
     let count = c.if-kind-eq-REPEAT.count in
     let noted : (length list ≡ 32) × (count ≤ 32) × TellsRepeats g list (i + 1) count =
-      elim c.if-kind-eq-REPEAT.branch [
-        then-kind-eq-REPEAT+else-count-ge-MOST_REPEATS w ↦
+    elim c.if-kind-eq-REPEAT.branch [
+      | then-kind-eq-REPEAT+else-count-ge-MOST_REPEATS w ↦
           let told = repeats_more g c.loop-i.repeats i c.loop-i.count w.narrow.result (omega arith) (sym c.kind_of-kind.ensures ∙ w.if-kind-eq-REPEAT.true) w.narrow.ensures c.loop-i.invariant.5 in (
             ap length w.repeats-is ∙ simp length-set c.loop-i.invariant.3,
             omega (arith, w.count-is),
             subst (TellsRepeats g list (i + 1)) (sym w.count-is) (subst (λ (l : List ℕ). TellsRepeats g l (i + 1) (c.loop-i.count + 1)) (sym w.repeats-is) told),
           )
-        | else-kind-eq-REPEAT w ↦
+      | else-kind-eq-REPEAT w ↦
           let told = repeats_same g c.loop-i.repeats i c.loop-i.count (λ e. w.if-kind-eq-REPEAT.false (c.kind_of-kind.ensures ∙ e)) c.loop-i.invariant.5 in (
             ap length w.repeats-is ∙ c.loop-i.invariant.3,
             omega (arith, w.count-is),
             subst (TellsRepeats g list (i + 1)) (sym w.count-is) (subst (λ (l : List ℕ). TellsRepeats g l (i + 1) c.loop-i.count) (sym w.repeats-is) told),
           )
-      ] in (
+    ] in (
       omega arith,
       simp length-set c.loop-i.invariant.1,
       nulls_more g c.loop-i.nulls i c.null_at-null.result (omega arith) c.loop-i.invariant.2 c.null_at-null.ensures,

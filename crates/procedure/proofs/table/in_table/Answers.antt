@@ -1,8 +1,6 @@
-use mathlib.Core.Path.{◌∙◌}
 use native.Mathlib.Omega.{arith}
-use borrow.Author.Rules.{rules}
 use Rattle.procedure.specs.Entry.{unpacked}
-use Rattle.procedure.proofs.Lines.{empty_decided, event_decided, event_code_over, repeat_decided, pair_kept, kind_kept, code_kept, upper_kept}
+use Rattle.procedure.proofs.Lines.{empty_decided, event_decided, repeat_decided, pair_kept}
 use Rattle.procedure.proofs.table.in_table.Goals as goal
 
 pub returns-then-kind-eq-EVENT : goal.returns-then-kind-eq-EVENT

@@ -1,10 +1,6 @@
 use Prim.Native.Nat.{ℕ, ◌≤◌, ◌<◌, ◌-◌}
-use native.Mathlib.Omega.{arith}
-use borrow.Author.Count.{below_none, below_more}
-use borrow.Author.Rules.{rules}
 use Rattle.meaning.specs.Node.{InTable}
 use Rattle.procedure.specs.Entry.{held}
-use Rattle.procedure.proofs.Deciding.{fails, holds}
 use Rattle.procedure.proofs.table.lowest_off_table.Given as goal
 
 abbrev pub invariant-loop-i : goal.invariant-loop-i

@@ -1,9 +1,8 @@
 use mathlib.Core.Path.{sym, ◌∙◌}
 use native.Mathlib.Omega.{arith}
-use borrow.Author.Rules.{rules}
 use Rattle.procedure.specs.Entry.{held}
 use Rattle.procedure.proofs.Nodes.{event_kept}
-use Rattle.prompt.proofs.Lighting.{code_near, code_not_near, code_of_none}
+use Rattle.prompt.proofs.Lighting.{code_near, code_of_none}
 use Rattle.prompt.proofs.light.code_near.Goals as goal
 
 pub returns-then-kind_of-ne-EVENT : goal.returns-then-kind_of-ne-EVENT

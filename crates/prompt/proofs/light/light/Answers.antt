@@ -1,6 +1,3 @@
-use mathlib.Core.List.{List}
-use Prim.Native.Nat.{ℕ}
-use borrow.Author.Rules.{rules}
 use Rattle.meaning.specs.Expr.{Expr}
 use Rattle.procedure.specs.Listing.{Tables}
 use Rattle.plan.specs.Plan.{Plans}

@@ -1,7 +1,3 @@
-use Prim.Native.Nat.{◌≤◌}
-use native.Mathlib.Omega.{arith}
-use borrow.Author.Rules.{rules}
-use Rattle.procedure.proofs.Nodes.{listing_some}
 use Rattle.prompt.proofs.Lighting.{lit_as, lit_at_start}
 use Rattle.prompt.proofs.light.lit.Goals as goal
 

@@ -1,10 +1,5 @@
 use Prim.Native.Nat.{◌≤◌, ◌-◌}
-use native.Mathlib.Omega.{arith}
-use mathlib.Core.Path.{subst}
-use Prim.Native.Nat.{ℕ}
-use borrow.Author.Rules.{rules}
 use Rattle.prompt.specs.Near.{CodesNear}
-use Rattle.prompt.proofs.Lighting.{codes_none, codes_more, lit_after}
 use Rattle.prompt.proofs.light.lit_after.Given as goal
 
 abbrev pub invariant-loop-q : goal.invariant-loop-q

@@ -1,9 +1,6 @@
-use mathlib.Core.Bool.{Bool}
 use mathlib.Core.Path.{sym, subst, ◌∙◌}
-use Prim.Native.Nat.{ℕ, ◌≤◌, ◌-◌}
+use Prim.Native.Nat.{ℕ}
 use native.Mathlib.Omega.{arith}
-use borrow.Author.Rules.{rules}
-use Rattle.plan.specs.Plan.{above_at}
 use Rattle.prompt.proofs.Nearby.{Nears, over, here, shut, on, nears_near}
 use Rattle.plan.proofs.Whole.{rises}
 use Rattle.prompt.proofs.near.near.Goals as goal

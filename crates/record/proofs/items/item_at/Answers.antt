@@ -1,6 +1,5 @@
 use mathlib.Core.Path.{sym, ◌∙◌}
 use native.Mathlib.Omega.{arith}
-use borrow.Author.Rules.{rules}
 use Rattle.record.proofs.Bytes.{item_in, item_past}
 use Rattle.record.proofs.items.item_at.Goals as goal
 

@@ -1,6 +1,5 @@
 use mathlib.Core.Path.{◌∙◌}
 use native.Mathlib.Omega.{arith}
-use borrow.Author.Rules.{rules}
 use Rattle.record.proofs.Puts.{put_fits, put_past}
 use Rattle.record.proofs.items.put.Goals as goal
 

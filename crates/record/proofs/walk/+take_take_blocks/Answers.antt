@@ -1,13 +1,8 @@
 use mathlib.Core.Path.{refl, sym, subst, ◌∙◌}
-use mathlib.Core.Bool.{Bool}
-use mathlib.Core.List.{List}
-use Prim.Native.Nat.{ℕ, ◌+◌, ◌-◌, ◌*◌, ◌≤◌, ◌<◌}
+use Prim.Native.Nat.{ℕ, ◌+◌, ◌-◌, ◌≤◌, ◌<◌}
 use native.Mathlib.Omega.{arith}
 use lib.ListN.{length}
-use borrow.Author.Rules.{rules}
-use Rattle.meaning.specs.Node.{Node}
 use Rattle.procedure.specs.Entry.{held, kind_of}
-use Rattle.record.specs.declared.walk.Taken.{Taken}
 use Rattle.record.specs.declared.walk.Taken.TheVariants.{To, Stuck}
 use Rattle.procedure.specs.Listing.{OneOf, Spans, TellsNulls}
 use Rattle.procedure.specs.Tests.{Decides}
@@ -17,8 +12,8 @@ use Rattle.procedure.proofs.Nodes.{one_lower, one_small}
 use Rattle.procedure.proofs.Orders.{spans_below}
 use Rattle.record.specs.Walk.{EatsAt, Inside, Onward, items_in}
 use Rattle.record.proofs.Bytes.{item_there, items_length}
-use Rattle.record.proofs.Stays.{StayAt, stay_starts, stay_goes, stay_stops, stuck_body, stuck_event, stuck_closing, item_is}
-use Rattle.record.proofs.Walks.{ends_decided, onward_ends, onward_further, left_spans, right_spans, body_spans, pass_by, leaf_eats, choice_goes_left, choice_goes_right, sequence_goes, sequence_stuck}
+use Rattle.record.proofs.Stays.{stay_starts, stay_goes, stay_stops, stuck_body, stuck_event, stuck_closing, item_is}
+use Rattle.record.proofs.Walks.{ends_decided, onward_ends, left_spans, right_spans, body_spans, pass_by, leaf_eats, choice_goes_left, choice_goes_right, sequence_goes, sequence_stuck}
 use Rattle.record.proofs.walk.+take_take_blocks.Goals as goal
 
 pub take-returns-then-not-inside-clause-eats_at : goal.take-returns-then-not-inside-clause-eats_at
@@ -29,8 +24,8 @@ take-returns-then-not-inside-clause-eats_at t c =
     → TellsNulls (held c.args.nodes.now) c.args.nulls.now (j + 1) = λ j h. nulls_fewer (held c.args.nodes.now) c.args.nulls.now (j + 1) (c.args.node + 1) (omega (arith, c.loop-start.invariant.3)) c.requires.tells_nulls in
     let out = fails _ c.inside.result c.inside.ensures c.if-not-inside.true in
     let r = c.to_if.result in c.loop-start.invariant.4 r (pass_by (held c.args.nodes.now) _ (items_in c.args.bytes.now) c.loop-start.s c.loop-start.i c.loop-start.at c.read_item-item.result r small
-          (null_told (held c.args.nodes.now) c.args.nulls.now (c.loop-start.i + 1) c.loop-start.i (known-to c.loop-start.i (omega arith)) (omega arith))
-          c.read_item-item.ensures out c.to_if.ensures)
+    (null_told (held c.args.nodes.now) c.args.nulls.now (c.loop-start.i + 1) c.loop-start.i (known-to c.loop-start.i (omega arith)) (omega arith))
+    c.read_item-item.ensures out c.to_if.ensures)
 
 pub take-overflow_add-at : goal.take-overflow_add-at
 take-overflow_add-at t c =
@@ -55,7 +50,7 @@ take-returns-then-kind-lt-CHOICE-clause-eats_at t c =
     let small : c.loop-start.i < 512 = one_small c.loop-start.i one in
     let there = item_there (items_in c.args.bytes.now) c.loop-start.at c.read_item-item.result c.read_item-item.ensures (omega (arith, inside-part, small)) in
     let r = c.to_if-then-kind-lt-CHOICE.result in c.loop-start.invariant.4 r (leaf_eats (held c.args.nodes.now) (items_in c.args.bytes.now) c.loop-start.s c.loop-start.i c.loop-start.at c.kind_of-kind.result c.read_item-item.result r c.kind_of-kind.ensures
-          c.if-kind-lt-CHOICE.true small c.read_item-item.ensures inside-part c.to_if-then-kind-lt-CHOICE.ensures)
+    c.if-kind-lt-CHOICE.true small c.read_item-item.ensures inside-part c.to_if-then-kind-lt-CHOICE.ensures)
 
 pub take-take_blocks-requires : goal.take-take_blocks-requires
 take-take_blocks-requires t c =
@@ -109,7 +104,7 @@ take-returns-in_default-clause-eats_at t c =
     let one : OneOf c.args.nodes.now c.loop-start.i = one_lower c.args.node c.loop-start.i c.loop-start.invariant.3 c.requires.one_of in
     let small : c.loop-start.i < 512 = one_small c.loop-start.i one in
     let stuck = subst (EatsAt (held c.args.nodes.now) (items_in c.args.bytes.now) c.loop-start.s c.left_of-left.result c.loop-start.at) c.in_default.is c.take.ensures.eats_at in c.loop-start.invariant.4 Stuck (sequence_stuck (held c.args.nodes.now) (items_in c.args.bytes.now) c.loop-start.s c.loop-start.i c.loop-start.at c.kind_of-kind.result c.left_of-left.result
-          c.kind_of-kind.ensures c.left_of-left.ensures small c.if-kind-lt-CHOICE.false c.if-kind-eq-CHOICE.false c.if-kind-eq-REPEAT.false stuck)
+    c.kind_of-kind.ensures c.left_of-left.ensures small c.if-kind-lt-CHOICE.false c.if-kind-eq-CHOICE.false c.if-kind-eq-REPEAT.false stuck)
 
 pub take-loop-start-preserved : goal.take-loop-start-preserved
 take-loop-start-preserved t c =
@@ -140,8 +135,8 @@ take_blocks-returns-then-read_item-i-clause-eats_at t c =
     let known_of : (j : ℕ) → j ≤ c.args.i → TellsNulls (held c.args.nodes.now) c.args.nulls.now (j + 1) = λ j h. nulls_fewer (held c.args.nodes.now) c.args.nulls.now (j + 1) (c.args.i + 1) (omega arith) c.requires.tells_nulls in
     let r = c.to_if.result in
     let ends = ends_decided _ c.may_have.result c.loop-s.at r c.may_have.ensures c.to_if.ensures in stay_stops (held c.args.nodes.now) (items_in c.args.bytes.now) c.args.s c.args.i c.args.place c.loop-s.k c.loop-s.at begins body.1 few
-          c.loop-s.invariant.3 (kind_of ((held c.args.nodes.now) c.args.i)) refl c.requires.i_value _ c.read_item.result r
-          (null_told (held c.args.nodes.now) c.args.nulls.now (c.args.i - 1 + 1) (c.args.i - 1) (known_of (c.args.i - 1) (omega arith)) (omega arith)) c.read_item.ensures c.if-read_item-i.true ends
+    c.loop-s.invariant.3 (kind_of ((held c.args.nodes.now) c.args.i)) refl c.requires.i_value _ c.read_item.result r
+    (null_told (held c.args.nodes.now) c.args.nulls.now (c.args.i - 1 + 1) (c.args.i - 1) (known_of (c.args.i - 1) (omega arith)) (omega arith)) c.read_item.ensures c.if-read_item-i.true ends
 
 pub take_blocks-overflow_add-at : goal.take_blocks-overflow_add-at
 take_blocks-overflow_add-at t c =
@@ -168,7 +163,7 @@ take_blocks-returns-in_default-clause-eats_at t c =
     let begins : c.args.s ≤ c.args.i = spans_below (held c.args.nodes.now) c.args.s c.args.i c.requires.spans in
     let few : c.args.i < 512 = one_small c.args.i c.requires.one_of in
     let stuck = subst (EatsAt (held c.args.nodes.now) (items_in c.args.bytes.now) c.args.s (c.args.i - 1) (c.loop-s.at + 1)) c.in_default.is c.take.ensures.eats_at in stuck_body (held c.args.nodes.now) (items_in c.args.bytes.now) c.args.s c.args.i c.args.place c.loop-s.k c.loop-s.at begins body.1 few
-          c.loop-s.invariant.3 (kind_of ((held c.args.nodes.now) c.args.i)) refl c.requires.i_value c.read_item.result c.read_item.ensures c.if-read_item-i.false stuck
+    c.loop-s.invariant.3 (kind_of ((held c.args.nodes.now) c.args.i)) refl c.requires.i_value c.read_item.result c.read_item.ensures c.if-read_item-i.false stuck
 
 pub take_blocks-returns-then-next-at-clause-eats_at : goal.take_blocks-returns-then-next-at-clause-eats_at
 take_blocks-returns-then-next-at-clause-eats_at t c =
@@ -181,8 +176,8 @@ take_blocks-returns-then-next-at-clause-eats_at t c =
       subst (Onward (items_in c.args.bytes.now) (c.loop-s.at + 1)) c.in-To.is c.take.ensures.onward,
     ) in
     stuck_event (held c.args.nodes.now) (items_in c.args.bytes.now) c.args.s c.args.i c.args.place c.loop-s.k c.loop-s.at begins body.1 few
-          c.loop-s.invariant.3 (kind_of ((held c.args.nodes.now) c.args.i)) refl c.requires.i_value c.read_item.result c.read_item.ensures c.if-read_item-i.false
-          c.in-To.next c.if-next-at.true taken.0
+    c.loop-s.invariant.3 (kind_of ((held c.args.nodes.now) c.args.i)) refl c.requires.i_value c.read_item.result c.read_item.ensures c.if-read_item-i.false
+    c.in-To.next c.if-next-at.true taken.0
 
 pub take_blocks-returns-then-read_item-i-2-clause-eats_at : goal.take_blocks-returns-then-read_item-i-2-clause-eats_at
 take_blocks-returns-then-read_item-i-2-clause-eats_at t c =
@@ -195,8 +190,8 @@ take_blocks-returns-then-read_item-i-2-clause-eats_at t c =
       subst (Onward (items_in c.args.bytes.now) (c.loop-s.at + 1)) c.in-To.is c.take.ensures.onward,
     ) in
     stuck_closing (held c.args.nodes.now) (items_in c.args.bytes.now) c.args.s c.args.i c.args.place c.loop-s.k c.loop-s.at begins body.1 few
-          c.loop-s.invariant.3 (kind_of ((held c.args.nodes.now) c.args.i)) refl c.requires.i_value c.read_item.result c.read_item.ensures c.if-read_item-i.false
-          c.in-To.next c.read_item-in-loop-s.result taken.0 c.read_item-in-loop-s.ensures c.if-read_item-i-2.true
+    c.loop-s.invariant.3 (kind_of ((held c.args.nodes.now) c.args.i)) refl c.requires.i_value c.read_item.result c.read_item.ensures c.if-read_item-i.false
+    c.in-To.next c.read_item-in-loop-s.result taken.0 c.read_item-in-loop-s.ensures c.if-read_item-i-2.true
 
 pub take_blocks-overflow_add-at-in-loop-s-2 : goal.take_blocks-overflow_add-at-in-loop-s-2
 take_blocks-overflow_add-at-in-loop-s-2 t c =
@@ -217,8 +212,7 @@ take_blocks-loop-s-preserved t c =
     ) in
     let closing-here : c.in-To.next < length (items_in c.args.bytes.now) = (item_is (items_in c.args.bytes.now) c.in-To.next c.read_item-in-loop-s.result (c.args.i + 8192) c.read_item-in-loop-s.ensures c.if-read_item-i-2.false
     (omega (arith, few))).0 in
-    let next = c.in-To.next in
-    (
+    let next = c.in-To.next in (
       omega (arith, c.loop-s.invariant.0, taken.1.0),
       omega (arith, closing-here),
       omega (arith, c.loop-s.invariant.2, taken.1.0),

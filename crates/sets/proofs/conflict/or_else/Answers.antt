@@ -1,6 +1,5 @@
 use mathlib.Core.Bool.{false≢true}
 use mathlib.Core.Path.{sym, ◌∙◌}
-use borrow.Author.Rules.{rules}
 use Rattle.sets.specs.Lowest.{first, second}
 use Rattle.sets.proofs.conflict.or_else.Goals as goal
 

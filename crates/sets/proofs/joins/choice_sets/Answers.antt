@@ -1,4 +1,3 @@
-use borrow.Author.Rules.{rules}
 use Rattle.sets.proofs.Joining.{joins_choice}
 use Rattle.sets.proofs.joins.choice_sets.Goals as goal
 

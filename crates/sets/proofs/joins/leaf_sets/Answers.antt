@@ -2,10 +2,8 @@ use mathlib.Core.Logic.{◌↔◌}
 use mathlib.Core.Path.{◌≡◌, sym, subst, ◌∙◌}
 use Prim.Native.Nat.{ℕ}
 use native.Mathlib.Omega.{arith}
-use borrow.Author.Rules.{rules}
 use Rattle.codes.specs.Codes.{Contains}
-use Rattle.procedure.specs.Entry.{code_of, kind_of, unpacked}
-use Rattle.procedure.proofs.Nodes.{event_kept}
+use Rattle.procedure.specs.Entry.{kind_of, unpacked}
 use Rattle.sets.proofs.Leaves.{leaf_empty, leaf_event}
 use Rattle.sets.proofs.joins.leaf_sets.Goals as goal
 

@@ -1,4 +1,3 @@
-use borrow.Author.Rules.{rules}
 use Rattle.sets.proofs.Joining.{over_body}
 use Rattle.sets.proofs.joins.repeat_sets.Goals as goal
 

@@ -1,4 +1,3 @@
-use borrow.Author.Rules.{rules}
 use Rattle.sets.proofs.Joining.{joins_sequence}
 use Rattle.sets.proofs.joins.sequence_sets.Goals as goal
 

@@ -1,10 +1,6 @@
-use mathlib.Core.Path.{◌≡◌, subst, ◌∙◌}
-use Prim.Native.Nat.{◌≤◌, ◌-◌}
+use mathlib.Core.Path.{subst}
 use native.Mathlib.Omega.{arith}
-use borrow.Author.Count.{below_none}
-use borrow.Author.Rules.{rules}
-use lib.ListN.{length, length-set}
-use Rattle.states.proofs.StateBytes.{Read, read_more, read_decoded}
+use Rattle.states.proofs.StateBytes.{Read, read_decoded}
 use Rattle.states.proofs.bytes.decode.Goals as goal
 
 pub returns : goal.returns

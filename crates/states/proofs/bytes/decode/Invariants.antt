@@ -1,10 +1,7 @@
-use mathlib.Core.Path.{◌≡◌, subst, ◌∙◌}
+use mathlib.Core.Path.{◌≡◌}
 use Prim.Native.Nat.{◌≤◌, ◌-◌}
-use native.Mathlib.Omega.{arith}
-use borrow.Author.Count.{below_none}
-use borrow.Author.Rules.{rules}
-use lib.ListN.{length, length-set}
-use Rattle.states.proofs.StateBytes.{Read, read_more, read_decoded}
+use lib.ListN.{length}
+use Rattle.states.proofs.StateBytes.{Read}
 use Rattle.states.proofs.bytes.decode.Given as goal
 
 abbrev pub invariant-loop-j : goal.invariant-loop-j

@@ -1,11 +1,7 @@
-use mathlib.Core.Path.{◌≡◌, refl, sym, ap, subst, ◌∙◌}
+use mathlib.Core.Path.{subst}
 use mathlib.Core.List.{◌∷◌}
-use Prim.Native.Nat.{ℕ, suc, ◌+◌, ◌≤◌, ◌-◌}
 use native.Mathlib.Omega.{arith}
-use borrow.Author.Count.{below_none}
-use borrow.Author.Rules.{rules}
-use lib.ListN.{length, get_or}
-use Rattle.states.proofs.StateBytes.{Filled, filled_more, filled_twos}
+use Rattle.states.proofs.StateBytes.{Filled, filled_twos}
 use Rattle.states.proofs.bytes.encode.Goals as goal
 
 pub returns : goal.returns

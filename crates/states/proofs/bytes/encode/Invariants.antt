@@ -1,11 +1,8 @@
-use mathlib.Core.Path.{◌≡◌, refl, sym, ap, subst, ◌∙◌}
+use mathlib.Core.Path.{◌≡◌}
 use mathlib.Core.List.{◌∷◌}
-use Prim.Native.Nat.{ℕ, suc, ◌+◌, ◌≤◌, ◌-◌}
-use native.Mathlib.Omega.{arith}
-use borrow.Author.Count.{below_none}
-use borrow.Author.Rules.{rules}
-use lib.ListN.{length, get_or}
-use Rattle.states.proofs.StateBytes.{Filled, filled_more, filled_twos}
+use Prim.Native.Nat.{◌+◌, ◌≤◌, ◌-◌}
+use lib.ListN.{length}
+use Rattle.states.proofs.StateBytes.{Filled}
 use Rattle.states.proofs.bytes.encode.Given as goal
 
 abbrev pub invariant-loop-j : goal.invariant-loop-j

@@ -1,11 +1,4 @@
-use mathlib.Core.Path.{sym, subst}
-use Prim.Native.Nat.{◌≤◌, ◌-◌}
 use native.Mathlib.Omega.{arith}
-use borrow.Author.Count.{below_none, below_more}
-use borrow.Author.Rules.{rules}
-use lib.ListN.{get_or}
-use Rattle.procedure.proofs.Deciding.{fails, holds}
-use Rattle.states.specs.Standing.{AllFit, FitsAt}
 use Rattle.states.proofs.Standing.{listed_inner}
 use Rattle.states.proofs.reached.all_fit.Goals as goal
 

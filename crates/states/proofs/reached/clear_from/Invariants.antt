@@ -1,6 +1,5 @@
 use Prim.Native.Nat.{◌≤◌, ◌-◌}
-use borrow.Author.Rules.{rules}
-use Rattle.states.proofs.RightCounts.{ClearBelow, clear_none, clear_more, clear_all}
+use Rattle.states.proofs.RightCounts.{ClearBelow}
 use Rattle.states.proofs.reached.clear_from.Given as goal
 
 abbrev pub invariant-loop-j : goal.invariant-loop-j

@@ -1,8 +1,6 @@
 use mathlib.Core.Path.{sym, ◌∙◌}
-use native.Mathlib.Omega.{arith}
-use borrow.Author.Rules.{rules}
 use Rattle.procedure.proofs.Deciding.{fails, holds}
-use Rattle.states.proofs.Standing.{start_decided, not_past, not_event, not_right, right_decided}
+use Rattle.states.proofs.Standing.{not_past, not_event, not_right, right_decided}
 use Rattle.states.proofs.reached.is_reached.Goals as goal
 
 pub returns-then-n-node : goal.returns-then-n-node

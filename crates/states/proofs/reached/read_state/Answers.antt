@@ -1,5 +1,4 @@
-use borrow.Author.Rules.{rules}
-use Rattle.procedure.proofs.Deciding.{fails, holds}
+use Rattle.procedure.proofs.Deciding.{fails}
 use Rattle.states.specs.Standing.{CanStand}
 use Rattle.states.proofs.ReachedBytes.{other_length_unreached}
 use Rattle.states.proofs.Readiness.{not_stood_unreached}

@@ -1,10 +1,7 @@
 use mathlib.Core.Path.{subst, sym, ◌∙◌}
-use Prim.Native.Nat.{ℕ, ◌≤◌, ◌-◌}
+use Prim.Native.Nat.{ℕ}
 use native.Mathlib.Omega.{arith}
-use borrow.Author.Rules.{rules}
 use Rattle.steps.specs.Climb.{Climbs, past, turns, stops, on}
-use Rattle.plan.specs.Plan.{above_at}
-use Rattle.steps.specs.declared.climb.Turn.{Turn}
 use Rattle.steps.proofs.climb.climb.Goals as goal
 
 pub returns-in-Turns : goal.returns-in-Turns

@@ -1,8 +1,5 @@
-use mathlib.Core.Path.{subst, sym, ◌∙◌}
-use Prim.Native.Nat.{ℕ, ◌≤◌, ◌-◌}
-use native.Mathlib.Omega.{arith}
-use borrow.Author.Rules.{rules}
-use Rattle.steps.specs.Climb.{Climbs, past, turns, stops, on}
+use Prim.Native.Nat.{◌≤◌, ◌-◌}
+use Rattle.steps.specs.Climb.{Climbs}
 use Rattle.plan.specs.Plan.{above_at}
 use Rattle.steps.specs.declared.climb.Turn.{Turn}
 use Rattle.steps.proofs.climb.climb.Given as goal

@@ -1,7 +1,5 @@
 use Prim.Native.Nat.{◌≤◌, ◌-◌, max}
-use borrow.Author.Rules.{rules}
 use Rattle.steps.specs.Counts.{Cleared}
-use Rattle.steps.proofs.Tests.{cleared_none, cleared_more, cleared_all}
 use Rattle.steps.proofs.turn.clear.Given as goal
 
 abbrev pub invariant-loop-j : goal.invariant-loop-j

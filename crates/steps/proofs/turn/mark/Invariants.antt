@@ -1,11 +1,7 @@
 use mathlib.Core.List.{List}
-use mathlib.Core.Path.{subst}
 use Prim.Native.Nat.{ℕ, ◌-◌}
-use native.Mathlib.Omega.{arith}
-use borrow.Author.Rules.{rules}
-use Rattle.steps.specs.Counts.{MarksUp, done}
+use Rattle.steps.specs.Counts.{MarksUp}
 use Rattle.plan.specs.Plan.{above_at}
-use Rattle.steps.proofs.Tests.{mark_one}
 use Rattle.steps.proofs.turn.mark.Given as goal
 
 abbrev pub invariant-loop-y : goal.invariant-loop-y

@@ -1,5 +1,4 @@
 use native.Mathlib.Omega.{arith}
-use Rattle.steps.proofs.Tests.{turned_by}
 use Rattle.steps.proofs.turn.turn.Goals as goal
 
 pub mark-requires-clause-by_index : goal.mark-requires-clause-by_index

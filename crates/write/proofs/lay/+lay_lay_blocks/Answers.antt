@@ -212,15 +212,14 @@ lay-loop-node-preserved t c =
     )
 
 pub lay_blocks-loop-i-init : goal.lay_blocks-loop-i-init
-lay_blocks-loop-i-init t c =
-    (
-      c.requires.leeway,
-      omega arith,
-      omega arith,
-      omega arith,
-      refl,
-      dwell_starts (held c.args.nodes.now) c.args.run.now c.args.space.now c.args.i c.args.event c.args.item,
-    )
+lay_blocks-loop-i-init t c = (
+  c.requires.leeway,
+  omega arith,
+  omega arith,
+  omega arith,
+  refl,
+  dwell_starts (held c.args.nodes.now) c.args.run.now c.args.space.now c.args.i c.args.event c.args.item,
+)
 
 pub lay_blocks-overflow_sub-i : goal.lay_blocks-overflow_sub-i
 lay_blocks-overflow_sub-i t c =
@@ -234,8 +233,8 @@ lay_blocks-returns-then-not-another-clause-lays_at t c =
     let r = c.to_if.result in
     let out = fails _ c.another.result c.another.ensures c.if-not-another.true in
     let ends = halts_decided _ c.may_have.result c.loop-i.at c.loop-i.to r c.may_have.ensures c.to_if.ensures in dwell_stops (held c.args.nodes.now) (get_or c.args.firsts.now c.args.i []) c.args.run.now c.args.space.now c.loop-i.space i c.args.event c.args.item c.loop-i.k c.loop-i.at
-          c.loop-i.to begins-here c.loop-i.invariant.5 (kind_of ((held c.args.nodes.now) i)) refl c.requires.i_value _ r
-          (null_told (held c.args.nodes.now) c.args.nulls.now (i + 1) (i - 1) c.requires.tells_nulls (omega arith)) out ends
+    c.loop-i.to begins-here c.loop-i.invariant.5 (kind_of ((held c.args.nodes.now) i)) refl c.requires.i_value _ r
+    (null_told (held c.args.nodes.now) c.args.nulls.now (i + 1) (i - 1) c.requires.tells_nulls (omega arith)) out ends
 
 pub lay_blocks-overflow_sub-i-in-loop-i : goal.lay_blocks-overflow_sub-i-in-loop-i
 lay_blocks-overflow_sub-i-in-loop-i t c =
@@ -274,7 +273,7 @@ lay_blocks-returns-in_default-clause-lays_at t c =
     let i = c.args.i in
     let stuck = subst (λ (r : Laid). LaysAt (held c.args.nodes.now) c.args.run.now (put_at c.loop-i.space c.loop-i.to (i + 4096)) (i - 1) c.loop-i.at (c.loop-i.to + 1) r c.lay.new.space)
     c.in_default.is laid in unlaid_body (held c.args.nodes.now) (get_or c.args.firsts.now c.args.i []) c.args.run.now c.args.space.now c.loop-i.space c.args.i c.args.event c.args.item c.loop-i.k
-          c.loop-i.at c.loop-i.to begins-here c.loop-i.invariant.5 (kind_of ((held c.args.nodes.now) i)) refl c.requires.i_value begins.0 begins.1 c.lay.new.space stuck
+    c.loop-i.at c.loop-i.to begins-here c.loop-i.invariant.5 (kind_of ((held c.args.nodes.now) i)) refl c.requires.i_value begins.0 begins.1 c.lay.new.space stuck
 
 pub lay_blocks-returns-then-a-at-clause-lays_at : goal.lay_blocks-returns-then-a-at-clause-lays_at
 lay_blocks-returns-then-a-at-clause-lays_at t c =
@@ -293,8 +292,8 @@ lay_blocks-returns-then-a-at-clause-lays_at t c =
       subst (Advances c.args.run.now (i - 1) c.loop-i.at (c.loop-i.to + 1)) c.in-To.is c.lay.ensures.advances,
     ) in
     unlaid_event (held c.args.nodes.now) (get_or c.args.firsts.now c.args.i []) c.args.run.now c.args.space.now c.loop-i.space c.args.i c.args.event c.args.item c.loop-i.k
-          c.loop-i.at c.loop-i.to begins-here c.loop-i.invariant.5 (kind_of ((held c.args.nodes.now) c.args.i)) refl c.requires.i_value begins.0 begins.1 c.lay.new.space
-          c.in-To.a c.in-To.t c.if-a-at.true c.loop-i.invariant.0.inside went.0
+    c.loop-i.at c.loop-i.to begins-here c.loop-i.invariant.5 (kind_of ((held c.args.nodes.now) c.args.i)) refl c.requires.i_value begins.0 begins.1 c.lay.new.space
+    c.in-To.a c.in-To.t c.if-a-at.true c.loop-i.invariant.0.inside went.0
 
 pub lay_blocks-overflow_add-to-in-loop-i : goal.lay_blocks-overflow_add-to-in-loop-i
 lay_blocks-overflow_add-to-in-loop-i t c =

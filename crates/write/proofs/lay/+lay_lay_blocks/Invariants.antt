@@ -9,7 +9,7 @@ use Rattle.write.proofs.LaidStays.{DwellsAt}
 use Rattle.write.proofs.lay.+lay_lay_blocks.Given as goal
 
 abbrev pub invariant-lay-loop-node : goal.invariant-lay-loop-node
-invariant-lay-loop-node l = 
+invariant-lay-loop-node l =
     Leeway l.run l.i l.at l.to × (l.i ≤ l.node) × (l.event ≤ l.at) × (reach l.run l.node l.at l.to ≤ reach l.run l.node l.event l.item)
     × (length l.space ≡ length l.initial.space)
     × ((r : Laid) (after : List ℕ) → LaysAt (held l.nodes) l.run l.space l.i l.at l.to r after → LaysAt (held l.nodes) l.run l.initial.space l.node l.event l.item r after)
@@ -18,7 +18,7 @@ abbrev pub decreases-lay-loop-node : goal.decreases-lay-loop-node
 decreases-lay-loop-node l = l.i
 
 abbrev pub invariant-lay_blocks-loop-i : goal.invariant-lay_blocks-loop-i
-invariant-lay_blocks-loop-i l = 
+invariant-lay_blocks-loop-i l =
     Leeway l.run l.i l.at l.to × (l.event ≤ l.at) × (l.k ≤ l.at) × (reach l.run l.i l.at l.to ≤ reach l.run l.i l.event l.item) × (length l.space ≡ length l.initial.space)
     × DwellsAt (held l.nodes) l.run l.initial.space l.i l.event l.item l.k l.at l.to l.space
 
