@@ -11,9 +11,10 @@ VERSION := $(shell sed -n 's/^\#define SEQ_VERSION_[A-Z]* //p' include/seqp.h | 
 SONAME := libseqp.so.$(basename $(VERSION))
 
 # ARCHIVE=FILE takes another archive than the one that rt makes.
-MADE = target/staticlib/libseqp.a
+MADE = crates/seqp_c/out/libseqp_c.a
+JUDGE = crates/seqp_judge/out/seqp_judge
 USED = $(or $(ARCHIVE),$(MADE))
-CRATES = crates.txt $(shell find crates -type f)
+CRATES = crates.txt $(shell find crates -type f -not -path "*/out/*")
 STATION = examples/station.c $(wildcard examples/station/*.c)
 LIBRARY = build/lib/libseqp.a build/lib/libseqp.so.$(VERSION) build/include/seqp.h
 
@@ -22,11 +23,11 @@ all: $(LIBRARY) build/bin/station build/bin/seqp_judge
 
 $(MADE): $(CRATES)
 	@scripts/kit
-	@scripts/timed "proving the library and making its archive" rt staticlib seqp
+	@scripts/timed "proving the library and making its archive" scripts/made seqp_c
 
-target/bin/seqp_judge: $(CRATES)
+$(JUDGE): $(CRATES)
 	@scripts/kit
-	@scripts/timed "proving and making the program seqp_judge" rt check seqp_judge
+	@scripts/timed "proving and making the program seqp_judge" scripts/made seqp_judge
 
 # Copied only where it differs, so that what is linked with it is not linked again.
 build/lib/libseqp.a: $(USED) FORCE
@@ -41,7 +42,7 @@ build/include/seqp.h: include/seqp.h
 	@mkdir -p $(@D)
 	@cp $< $@
 
-build/bin/seqp_judge: target/bin/seqp_judge
+build/bin/seqp_judge: $(JUDGE)
 	@mkdir -p $(@D)
 	@cp $< $@
 
@@ -71,7 +72,7 @@ bench:
 	@python3 -B bench/bench.py $(ARCHIVE)
 
 clean:
-	@rm -rf build target
+	@rm -rf build crates/*/out
 
 help:
 	@echo "make            proves and builds the library, the station and seqp_judge into build/"

@@ -18,8 +18,8 @@ import procedures
 TOP = Path(__file__).resolve().parent.parent
 BUILD = TOP / "build" / "bench"
 FILES = BUILD / "files"
-ARCHIVE = TOP / "target" / "staticlib" / "libseqp.a"
-CRATE = "seqp"
+CRATE = "seqp_c"
+ARCHIVE = TOP / "crates" / CRATE / "out" / f"lib{CRATE}.a"
 
 COMPILER = "x86_64-linux-gnu-gcc"
 COMPILER_PACKAGES = {"x86_64": "gcc,libc6-dev"}
@@ -91,7 +91,7 @@ def file_of(name, kind):
 def build_archive():
     """Has rt prove and make the archive."""
     say(f"proving and making the archive of {CRATE}")
-    command("rt", "staticlib", CRATE)
+    command("scripts/made", CRATE)
     return ARCHIVE
 
 

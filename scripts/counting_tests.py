@@ -84,6 +84,8 @@ class Tests(unittest.TestCase):
 class Rt(unittest.TestCase):
     """A tree of two crates with three edits, of which rt ci has to count each."""
 
+    OK = "rt: ok; handles allowed: none; must-fail edits: 3 refused; every proof and must-fail edit was done in this run\n"
+
     def setUp(self):
         folder = tempfile.TemporaryDirectory()
         self.addCleanup(folder.cleanup)
@@ -92,25 +94,31 @@ class Rt(unittest.TestCase):
             path = self.top / "crates" / edit
             path.parent.mkdir(parents=True, exist_ok=True)
             path.write_text("")
-        self.list_crates("# NAME: crates\none:\ntwo: one # both\n")
+        self.list_crates("# NAME: crates\none:\ntwo staticlib: one # both\n")
 
     def list_crates(self, text):
         (self.top / "crates.txt").write_text(text)
 
     def test_every_crate_and_edit_is_counted(self):
-        self.assertEqual(gate.counted_by_rt("rt: ok\n5 passed, 0 failed\n", self.top), (5, 0))
+        self.assertEqual(gate.counted_by_rt(self.OK + "5 passed, 0 failed\n", self.top), (5, 0))
         self.assertEqual(gate.counted_by_rt("1 passed, 2 failed\n", self.top), (1, 2))
 
     def test_one_is_not_counted(self):
         for text in ("0 passed, 0 failed\n", "4 passed, 0 failed\n"):
             with self.assertRaises(gate.Unfit):
-                gate.counted_by_rt(text, self.top)
+                gate.counted_by_rt(self.OK + text, self.top)
+
+    def test_an_edit_that_is_bad_or_met_a_limit_and_a_handle(self):
+        for said in ("", "rt: ok\n", self.OK.replace("3 refused", "3 refused, 1 bad"), self.OK.replace("3", "2"),
+                     self.OK.replace("3 refused", "3 refused, 1 of them only by a limit"), self.OK.replace("none", "Wait")):
+            with self.subTest(said=said), self.assertRaises(gate.Unfit):
+                gate.counted_by_rt(said + "5 passed, 0 failed\n", self.top)
 
     def test_crates_that_are_not_listed(self):
         for listed in ("", "# one:\n# two:\n", "one:\n"):
             self.list_crates(listed)
             with self.assertRaises(gate.Unfit):
-                gate.counted_by_rt("5 passed, 0 failed\n", self.top)
+                gate.counted_by_rt(self.OK + "5 passed, 0 failed\n", self.top)
 
 
 class Parts(unittest.TestCase):

@@ -22,6 +22,8 @@ MOST_SECONDS = 85 * 60
 QUIET_SECONDS = 60
 
 VERDICT = re.compile(r"^(\d+) passed, (\d+) failed$")
+# What rt ci says where all is well: by a limit or bad, an edit shows nothing.
+RT_OK = re.compile(r"^rt: ok; handles allowed: none; must-fail edits: (\d+) refused;", re.M)
 COMPARED = re.compile(r"^(\d+) compared, (\d+) differ$", re.M)
 # Fewer comparisons than these cover too little.
 LEAST_COMPARED = 20_000
@@ -94,7 +96,7 @@ def counted_by_verdict(text):
 
 
 def counted_by_rt(text, top=TOP):
-    """The verdict of rt ci, which has to count every crate of the tree and every must-fail edit."""
+    """The verdict of rt ci, which has to count every crate of the tree and every must-fail edit, and to call none bad."""
     passed, failed = counted_by_verdict(text)
     crates, edits = listed_crates(top), list(top.glob("crates/*/must-fail/*.edit"))
     unlisted = {path.name for path in top.glob("crates/*") if path.is_dir()} - set(crates)
@@ -102,6 +104,9 @@ def counted_by_rt(text, top=TOP):
         raise Unfit(f"crates.txt does not list {', '.join(sorted(unlisted))}")
     if failed == 0 and passed < len(crates) + len(edits):
         raise Unfit(f"it counted {passed}, and there are {len(crates)} crates and {len(edits)} must-fail edits")
+    told = RT_OK.findall(text)
+    if failed == 0 and told != [str(len(edits))]:
+        raise Unfit(f"it has no line rt: ok with {len(edits)} must-fail edits refused, none bad, and no handle")
     return passed, failed
 
 
@@ -131,13 +136,13 @@ def counted_by_cargo(text):
 
 def listed_crates(top=TOP):
     text = (top / "crates.txt").read_text(encoding="utf-8")
-    return [line.split(":")[0].strip() for line in text.splitlines() if ":" in line.split("#")[0]]
+    return [line.split(":")[0].split()[0] for line in text.splitlines() if ":" in line.split("#")[0]]
 
 
 def parts():
     """Name, command, way to count, further environment; in the order in which they run."""
     yield "the gate's own tests", ["python3", "scripts/gate-tests"], counted_by_verdict, {}
-    yield "the layout of every file", ["rt", "fmt", "--check"], counted_once, {}
+    # The layout of every file is a part of it.
     yield "every proof, must-fail edit and program", ["rt", "ci"], counted_by_rt, {}
     yield "why each must-fail edit was refused", ["python3", "scripts/must-fail-logs"], counted_by_verdict, {}
     yield "what the page of promises cites", ["python3", "scripts/promises-page"], counted_by_verdict, {}
@@ -172,6 +177,9 @@ def outcome(name, command, count, env, until):
         return 0, 1, f"{command[0]} is not on this machine"
     try:
         status, text = run(name, command, {**os.environ, **env}, until)
+        if count is counted_by_rt:
+            BUILD.mkdir(exist_ok=True)
+            (BUILD / "rt-ci.log").write_text(text, encoding="utf-8")
         passed, failed = count(text) if status == 0 or count is not counted_once else (0, 1)
     except (Unfit, OSError) as reason:
         return 0, 1, str(reason)

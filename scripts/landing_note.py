@@ -10,7 +10,6 @@ WIDTH = 118
 # A count has moved if it moved by more than this part of itself.
 MOVED = 0.02
 
-PROVED = re.compile(r"^rt: (\S+) proved \((\d+) s\)$", re.M)
 # A procedure and what is measured of it; no figure is a hyphen.
 FIGURE = re.compile(r"(\S.*?) +([\d,.]+)$")
 MEASURED = re.compile(r"^\d+ targets met, \d+ missed, (\d+) figures failed$", re.M)
@@ -225,11 +224,6 @@ def lines_moved(numstat):
 
 
 # What was measured.
-
-
-def check_times(log):
-    """The seconds of each crate, as rt check says them."""
-    return {crate: int(took) for crate, took in PROVED.findall(log)}
 
 
 def seconds(value, digits=0):

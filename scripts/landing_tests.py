@@ -190,10 +190,6 @@ Follow                      P2                     -          -                F
 
 
 class Measured(unittest.TestCase):
-    def test_times(self):
-        log = "fn a::f: proved\nrt: a proved (9 s)\nrt: b proved (12 s)\nrt: b ran as nobody (0 s)\nrt: ok, 2 crates proved\n"
-        self.assertEqual(note.check_times(log), {"a": 9, "b": 12})
-
     def test_the_table_of_times(self):
         lines = note.times_section({"a": (9, 10.0), "old": (2, 2.0)}, {"new": (3, 3.5), "a": (8, 12.5)}).splitlines()
         self.assertEqual(lines[-4:], [
