@@ -23,6 +23,9 @@ FAILS = (
     "`omega`: the goal does not follow from what it read. All of that holds, and the goal fails, at `j` = 0, `i` = 0.",
     "`omega`: the part `.fits` of the goal does not follow from what it read. All of that holds, and the part fails.",
     "`search`: no proof of `a ≤ b`",
+    "computed as a goal is, one side reads `Decides (low n ≤ k)`",
+    "this `broken_at` lands at index `Broken` (position 1) but the expected type",
+    "computed as far as they go, the two types d",
 )
 OTHER_WORDS = (
     "in its elaboration: deep recursion",
@@ -36,7 +39,9 @@ OTHER_WORDS = (
     "`other` is not in scope; did you mean `another`?",
     "record `Lts.Else2` has no field `if1`",
     "words that nobody has judged yet, and then: the two types differ only where one has `a`",
+    "computed as far as they g",
 )
+PARTS = ("src/lib.rt", 6, "returns")
 NOTE = "note: src/lib.rt:6:1: it is not proved that what the function ensures holds when it returns (`returns`)"
 
 
@@ -44,13 +49,24 @@ def refused(text, file="./proofs/body/Answers.antt"):
     return f"refused, as it must be: {file}:48:6: error: `returns`: {text}"
 
 
+def put(folder, name, text=""):
+    path = folder / name
+    path.parent.mkdir(parents=True, exist_ok=True)
+    path.write_text(text)
+
+
 class Judging(unittest.TestCase):
+    class Goals:
+        @staticmethod
+        def has(*told):
+            return told == PARTS
+
     def counts(self, edit, said):
-        good, why = logs.judged(edit, said)
+        good, why = logs.judged(edit, said, self.Goals)
         self.assertTrue(good, why)
 
     def fails(self, reason, edit, said):
-        good, why = logs.judged(edit, said)
+        good, why = logs.judged(edit, said, self.Goals)
         self.assertFalse(good, why)
         self.assertIn(reason, why)
 
@@ -69,7 +85,14 @@ class Forms(Judging):
                 self.fails("does not say that a fact fails", DEFINITION, refused(text))
 
     def test_a_goal_that_has_no_answer(self):
-        self.counts(CODE, f"refused, as it must be: {NOTE}")
+        self.counts(CODE, f"refused, as it must be: {NOTE}; the facts known there allow values at which this goal")
+        self.counts(CODE, "refused, as it must be: note: src/lib.rt:6:9: `search` found no proof (`returns`); `search` gave up")
+        self.fails("does not say that a fact fails", CODE, "refused, as it must be: note: src/lib.rt:6:1: it is not proved that wha")
+
+    def test_a_goal_that_the_edit_has_renamed(self):
+        self.fails("renamed the goal", CODE, f"refused, as it must be: {NOTE.replace('`returns`', '`returns-then-a`')}")
+
+    def test_what_is_no_note_on_a_goal(self):
         self.fails("does not say that a fact fails", CODE, "refused, as it must be: note: src/lib.rt:6:1: it ran out of stack")
 
 
@@ -108,6 +131,36 @@ class Lines(Judging):
         self.assertEqual(logs.lines(log), {("one", "a_b"): refused(FAILS[0]), ("two", "a"): "NOT REFUSED: so"})
 
 
+class Goals(unittest.TestCase):
+    """Of a crate with a function `body` and two that call one another, `one` and `two`, in a module."""
+
+    NAMES = {"Rattle-c-proofs.body.Lts": {"needs": [["a", "returns"], ["b", "f-requires"]]},
+             "Rattle-c-proofs.walk.+one_two.Lts-one": {"stem": "one-", "needs": [["a", "returns"]]},
+             "Rattle-c-proofs.walk.+one_two.Lts-two": {"stem": "two-", "needs": [["a", "returns"]]}, "off:c": 3}
+
+    def setUp(self):
+        folder = tempfile.TemporaryDirectory()
+        self.addCleanup(folder.cleanup)
+        self.crate = Path(folder.name)
+        put(self.crate, "src/lib.rt", "// c\npub fn body() {\n    f();\n}\n")
+        put(self.crate, "src/walk.rt", "pub fn one() {\n}\n\nfn two() {\n}\n")
+        self.goals = logs.Goals(self.crate, self.NAMES)
+
+    def test_a_function_without_answers_cannot_lose_one(self):
+        self.assertTrue(self.goals.has("src/lib.rt", 3, "returns-then-a"))
+        self.assertTrue(self.goals.has("src/walk.rt", 4, "two-returns-then-a"))
+
+    def test_the_goals_of_functions_that_have_answers(self):
+        put(self.crate, "proofs/body/Answers.antt")
+        put(self.crate, "proofs/walk/+one_two/Answers.antt")
+        for path, line, goal in (("src/lib.rt", 2, "returns"), ("src/lib.rt", 3, "f-requires-clause-low"),
+                                 ("src/walk.rt", 2, "one-returns"), ("src/walk.rt", 5, "two-returns")):
+            self.assertTrue(self.goals.has(path, line, goal), goal)
+        for path, line, goal in (("src/lib.rt", 2, "returns-then-a"), ("src/walk.rt", 2, "two-returns"),
+                                 ("src/walk.rt", 4, "one-returns"), ("src/lib.rt", 3, "g-requires")):
+            self.assertFalse(self.goals.has(path, line, goal), goal)
+
+
 class Edits(unittest.TestCase):
     """A tree of one crate, in which a test puts edits, and what rt said of them."""
 
@@ -119,13 +172,8 @@ class Edits(unittest.TestCase):
         self.top = Path(folder.name)
         (self.top / "crates" / "one").mkdir(parents=True)
 
-    def put(self, name, text):
-        path = self.top / name
-        path.parent.mkdir(parents=True, exist_ok=True)
-        path.write_text(text)
-
     def test_an_edit_with_its_line_and_one_without(self):
-        self.put("crates/one/must-fail/a.edit", CODE)
+        put(self.top, "crates/one/must-fail/a.edit", CODE)
         self.assertEqual(logs.read(self.top, ""), (0, 1))
         self.assertEqual(logs.read(self.top, self.SAID), (1, 0))
 
@@ -136,8 +184,8 @@ class Edits(unittest.TestCase):
         for name in ("one/must-fail/b.edits", "one/must-fail/more/b.edit", "one/must_fail/b.edit", "b.edit"):
             with self.subTest(name=name):
                 self.setUp()
-                self.put("crates/one/must-fail/a.edit", CODE)
-                self.put(f"crates/{name}", CODE)
+                put(self.top, "crates/one/must-fail/a.edit", CODE)
+                put(self.top, f"crates/{name}", CODE)
                 passed, failed = logs.read(self.top, self.SAID)
                 self.assertEqual(passed, 1)
                 self.assertGreater(failed, 0)

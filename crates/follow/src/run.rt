@@ -13,7 +13,7 @@ use meaning::Verdict;
 use procedure::entry;
 
 // Where a run stands after some events, and how many of them it took.
-#[derive(Drop)]
+#[derive(Clone, Copy)]
 pub struct Ran {
     // 0 at the start, or else 1 + the event node reached.
     pub node: usize,

@@ -8,7 +8,7 @@ use meaning::{JudgeAnswer, Refusal};
 use procedure::Opened;
 
 // What becomes of a file.
-#[derive(Drop)]
+#[derive(Clone, Copy)]
 pub enum Admission {
     // It holds a strongly deterministic expression of so many nodes, of which so many are repeats.
     Nodes(usize, usize),

@@ -2,7 +2,7 @@
 #![tactic(auto)]
 
 // Why a call is refused: a case for each number from 1 on, in the order of the table.
-#[derive(Drop)]
+#[derive(Clone, Copy)]
 pub enum Refusal {
     // 1: the file is under 20 or over 8,204 bytes.
     Size,
@@ -30,7 +30,7 @@ pub enum Refusal {
 }
 
 // How a run stands.
-#[derive(Drop)]
+#[derive(Clone, Copy)]
 pub enum Verdict {
     // All events were taken, and the run is a word.
     Complete,
@@ -41,7 +41,7 @@ pub enum Verdict {
 }
 
 // What Judge answers.
-#[derive(Drop)]
+#[derive(Clone, Copy)]
 pub enum JudgeAnswer {
     // The file holds a strongly deterministic expression.
     Admitted,
@@ -50,7 +50,7 @@ pub enum JudgeAnswer {
 }
 
 // What Follow answers.
-#[derive(Drop)]
+#[derive(Clone, Copy)]
 pub enum FollowAnswer {
     // So many events were taken, and so the run stands.
     Followed(u64, Verdict),
@@ -59,7 +59,7 @@ pub enum FollowAnswer {
 }
 
 // What Write answers.
-#[derive(Drop)]
+#[derive(Clone, Copy)]
 pub enum WriteAnswer {
     // The record stands in so many bytes of the space.
     Written(u64),
@@ -68,7 +68,7 @@ pub enum WriteAnswer {
 }
 
 // What Check answers.
-#[derive(Drop)]
+#[derive(Clone, Copy)]
 pub enum CheckAnswer {
     // The bytes are the record of a reading.
     Yes,
@@ -79,7 +79,7 @@ pub enum CheckAnswer {
 }
 
 // What Prompt answers.
-#[derive(Drop)]
+#[derive(Clone, Copy)]
 pub enum PromptAnswer {
     // The codes to light: codes 0 to 63 as the bits of the low word, and the others, less 64, as those of the high word.
     Lit(u64, u64),

@@ -16,7 +16,7 @@ mod repeats; // repeats.rt: the test 6, on the number of repeats, and the empty 
 mod table; // table.rt: the test 4, on each record
 
 // What a file is read as.
-#[derive(Drop)]
+#[derive(Clone, Copy)]
 pub enum Opened {
     // An expression of so many nodes, of which so many are repeats.
     Nodes(usize, usize),

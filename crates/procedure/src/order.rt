@@ -8,7 +8,7 @@ ghost use Rattle.procedure.specs.Listing.{TellsStarts};
 use crate::entry;
 
 // Where the part of a node begins.
-#[derive(Drop)]
+#[derive(Clone, Copy)]
 pub enum Start {
     // At this node.
     At(usize),

@@ -10,7 +10,7 @@ use crate::{entry, nulls};
 const MOST_REPEATS: usize = 32;
 
 // What the nodes have of repeats.
-#[derive(Drop)]
+#[derive(Clone, Copy)]
 pub enum Counted {
     // So many, which begin the list.
     Listed(usize),

@@ -37,7 +37,8 @@ fn code_near(
     if entry::kind_of(node) != entry::EVENT {
         return codes::none();
     }
-    if near::near(nodes, starts, nulls, plan, n, p, q) {
+    let follows = near::near(nodes, starts, nulls, plan, n, p, q);
+    if follows {
         return codes::one(entry::code_of(node));
     }
     codes::none()

@@ -26,7 +26,7 @@ fn item_at(bytes: &[u8], at: usize) -> usize
 }
 
 // A record and a place in it.
-#[derive(Drop)]
+#[derive(Clone, Copy)]
 pub struct Reader<'a> {
     pub bytes: &'a [u8],
     pub at: usize,

@@ -9,7 +9,7 @@ use crate::items;
 use procedure::{bounds, entry};
 
 // What a walk over a part takes of the items.
-#[derive(Drop)]
+#[derive(Clone, Copy)]
 pub enum Taken {
     // All up to this place.
     To(usize),

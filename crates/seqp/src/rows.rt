@@ -5,7 +5,7 @@ ghost use Rattle.meaning.specs.Numbers.{judged, plain, row, verdict_number};
 use meaning::{Refusal, Verdict};
 
 // A row of the table of refusals: the number, and what Judge reports with it.
-#[derive(Drop)]
+#[derive(Clone, Copy)]
 pub struct Row {
     pub answer: u32,
     pub node: usize,

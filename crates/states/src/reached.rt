@@ -9,7 +9,7 @@ use crate::bytes;
 use procedure::{bounds, entry};
 
 // What a state's bytes say.
-#[derive(Drop)]
+#[derive(Clone, Copy)]
 pub enum Read {
     // Runs reach the state, with this node: 0 at the start, or else 1 + the event node.
     Reached(usize),

@@ -8,7 +8,7 @@ use plan::link;
 use procedure::{bounds, entry};
 
 // What the way does at a node.
-#[derive(Drop)]
+#[derive(Clone, Copy)]
 pub enum Look {
     // It turns here, towards the event node.
     Turns,
@@ -19,7 +19,7 @@ pub enum Look {
 }
 
 // Where the way leads.
-#[derive(Drop)]
+#[derive(Clone, Copy)]
 pub enum Turn {
     // It turns at this node.
     At(usize),

@@ -14,7 +14,7 @@ use procedure::{bounds, entry};
 use record::items;
 
 // What a walk over a part lays.
-#[derive(Drop)]
+#[derive(Clone, Copy)]
 pub enum Laid {
     // The events up to this place of the run, as the items up to this place of the record.
     To(usize, usize),

@@ -16,8 +16,8 @@ one-requires c =
     let kind = sym c.kind_of.ensures ∙ c.if-kind_of-ne-EVENT.false in
     omega (arith, c.code_of.ensures, event_kept (held a.nodes.now a.q) (c.requires.plans.1.listing.table a.q c.requires.q_lt_n) kind)
 
-pub returns-then-near : goal.returns-then-near
-returns-then-near c =
+pub returns-then-follows : goal.returns-then-follows
+returns-then-follows c =
     let a = c.args in
-    code_near _ _ c.requires.q_lt_n (sym c.kind_of.ensures ∙ c.if-kind_of-ne-EVENT.false) c.near.ensures c.if-near.true
+    code_near _ _ c.requires.q_lt_n (sym c.kind_of.ensures ∙ c.if-kind_of-ne-EVENT.false) c.near-follows.ensures c.if-follows.true
     c.code_of.ensures c.one.ensures
