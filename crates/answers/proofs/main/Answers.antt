@@ -1,3 +1,4 @@
+-- `answers::main` is safe and ends: each buffer is lent whole. Assumes nothing.
 use Rattle.answers.proofs.Laws.{made}
 use Rattle.answers.proofs.main.Goals as goal
 

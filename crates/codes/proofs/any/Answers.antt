@@ -1,3 +1,4 @@
+-- `codes::any` meets its contract: there is a code in the set exactly if something is in either word. Assumes nothing.
 use Rattle.codes.proofs.Pairs.{any_told}
 use Rattle.codes.proofs.any.Goals as goal
 

@@ -1,3 +1,4 @@
+-- `codes::count` meets its contract: those of the low word and those of the high word. Assumes nothing.
 use native.Mathlib.Omega.{arith}
 use Rattle.meaning.proofs.General.Properties.{count_most}
 use Rattle.codes.proofs.Pairs.{count_in_words}

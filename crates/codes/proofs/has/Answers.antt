@@ -1,3 +1,4 @@
+-- `codes::has` meets its contract: the one word or the other decides. Assumes nothing.
 use native.Mathlib.Omega.{arith}
 use Rattle.codes.proofs.Pairs.{high_told, low_told}
 use Rattle.codes.proofs.has.Goals as goal

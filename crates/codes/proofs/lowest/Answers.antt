@@ -1,3 +1,4 @@
+-- `codes::lowest` meets its contract: the lowest of the low word, or else that of the high word. Assumes nothing.
 use Rattle.codes.proofs.Pairs.{lowest_in_high, lowest_in_low}
 use Rattle.codes.proofs.lowest.Goals as goal
 

@@ -1,3 +1,4 @@
+-- `codes::one` meets its contract: the code stands in the one word or in the other. Assumes nothing.
 use native.Mathlib.Omega.{arith}
 use Rattle.codes.proofs.Pairs.{high_only, low_only}
 use Rattle.codes.proofs.one.Goals as goal

@@ -1,3 +1,4 @@
+-- `codes::shared` meets its contract, word by word. Assumes nothing.
 use Rattle.codes.proofs.Pairs.{shared_contains}
 use Rattle.codes.proofs.shared.Goals as goal
 

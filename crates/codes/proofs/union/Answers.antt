@@ -1,3 +1,4 @@
+-- `codes::union` meets its contract, word by word. Assumes nothing.
 use Rattle.codes.proofs.Pairs.{union_contains}
 use Rattle.codes.proofs.union.Goals as goal
 

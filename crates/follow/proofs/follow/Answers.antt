@@ -1,3 +1,4 @@
+-- `follow::follow` meets its contract. Assumes nothing.
 use Rattle.meaning.specs.Promises.{Follows}
 use Rattle.judge.proofs.Entering.{barred, entered}
 use Rattle.follow.proofs.Following.{follows_entered}

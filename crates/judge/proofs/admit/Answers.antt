@@ -1,3 +1,4 @@
+-- `judge::admit` meets its contract: what was read is admitted where no conflict is found in it. Assumes nothing.
 use native.Mathlib.Omega.{arith}
 use Rattle.judge.proofs.Admissions.{admits_neither, admits_nodes, admits_not}
 use Rattle.judge.proofs.admit.Goals as goal

@@ -1,3 +1,4 @@
+-- `judge::judge` meets its contract. Assumes nothing.
 use Rattle.judge.proofs.Admissions.{judges_admitted, judges_refused}
 use Rattle.judge.proofs.judge.Goals as goal
 

@@ -1,3 +1,5 @@
+-- `procedure::read` meets its contract: the tests in the order of the table, each by the law that says what it found of the file.
+-- Assumes nothing.
 use mathlib.Core.Path.{subst}
 use native.Mathlib.Omega.{arith}
 use Rattle.meaning.specs.File.{by_letters, by_measures, by_size}

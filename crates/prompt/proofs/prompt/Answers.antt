@@ -1,3 +1,4 @@
+-- `prompt::prompt` meets its contract. Assumes nothing.
 use Rattle.meaning.specs.Promises.{Prompts}
 use Rattle.judge.proofs.Entering.{barred}
 use Rattle.prompt.proofs.prompt.Goals as goal

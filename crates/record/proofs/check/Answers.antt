@@ -1,3 +1,4 @@
+-- `record::check` meets its contract, by what was read of the file and what was found of the record. Assumes nothing.
 use mathlib.Core.Path.{subst}
 use Rattle.meaning.specs.Promises.{Checks}
 use Rattle.procedure.specs.declared.Opened.TheVariants.{Nodes}

@@ -1,3 +1,4 @@
+-- `record::is_record` meets its contract, by what the walk over the root takes of the items. Assumes nothing.
 use mathlib.Core.Path.{subst}
 use Prim.Native.Nat.{◌+◌, ◌-◌}
 use native.Mathlib.Omega.{arith}

@@ -1,3 +1,4 @@
+-- `seqp::seq_check` meets its promise: each arm gives the numbers of its answer. Assumes nothing.
 use mathlib.Core.Path.{refl}
 use Rattle.meaning.specs.Numbers.{checked, check_numbers}
 use Rattle.meaning.specs.Promises.{CheckPromise}

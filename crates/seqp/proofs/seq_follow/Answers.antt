@@ -1,3 +1,4 @@
+-- `seqp::seq_follow` meets its promise: each arm gives the numbers of its answer, and the state as Follow leaves it. Assumes nothing.
 use Rattle.meaning.specs.Numbers.{followed, follow_numbers}
 use Rattle.meaning.specs.Promises.{FollowPromise}
 use Rattle.seqp.proofs.Laws.{arm}

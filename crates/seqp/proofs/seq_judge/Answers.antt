@@ -1,3 +1,4 @@
+-- `seqp::seq_judge` meets its promise: each arm gives the numbers of its answer. Assumes nothing.
 use borrow.Author.Rules.{rules}
 use mathlib.Core.Path.{refl, ap}
 use Rattle.meaning.specs.Numbers.{JudgeNumbers, judge_numbers}

@@ -1,3 +1,4 @@
+-- `seqp::seq_prompt` meets its promise: each arm gives the numbers of its answer. Assumes nothing.
 use mathlib.Core.Path.{refl}
 use Rattle.meaning.specs.Numbers.{prompted, prompt_numbers}
 use Rattle.meaning.specs.Promises.{PromptPromise}

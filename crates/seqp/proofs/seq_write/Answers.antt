@@ -1,3 +1,4 @@
+-- `seqp::seq_write` meets its promise: each arm gives the numbers of its answer, and the space as Write leaves it. Assumes nothing.
 use mathlib.Core.Path.{refl}
 use Rattle.meaning.specs.Numbers.{write_numbers, wrote}
 use Rattle.meaning.specs.Promises.{WritePromise}

@@ -1,3 +1,5 @@
+-- `sets::fill_sets` meets its contract. The loop's invariant: what stands in the tables below i is so of the parts of those nodes, and
+-- what was found is their lowest conflict. Assumes nothing.
 use mathlib.Core.Path.{◌≡◌}
 use Prim.Native.Nat.{◌-◌, ◌≤◌}
 use lib.ListN.{length}

@@ -1,3 +1,4 @@
+-- `sets::sets_at` meets its contract, kind by kind. Assumes nothing.
 use Prim.Native.Nat.{◌≤◌, ◌<◌}
 use native.Mathlib.Omega.{arith}
 use Rattle.procedure.specs.Entry.{held}
@@ -18,8 +19,6 @@ pub part_at-last-requires-clause-j_in_bounds : goal.part_at-last-requires-clause
 part_at-last-requires-clause-j_in_bounds c =
     let some : 1 ≤ c.args.i = (last_order (held c.args.nodes.now) c.args.i c.kind_of-kind.result c.kind_of-kind.ensures c.if-kind-lt-CHOICE.false (one_ordered c.args.i c.requires.one_of)).1 in
     let small : c.args.i < 512 = one_small c.args.i c.requires.one_of in
-    let one = some in
-    let below = small in
     (omega arith, omega arith)
 
 pub returns-then-kind-eq-REPEAT : goal.returns-then-kind-eq-REPEAT
@@ -34,8 +33,6 @@ part_at-left-requires-clause-j_bound c =
     let left_below : c.left_of.result < c.args.i = left_lower (held c.args.nodes.now) c.args.i c.kind_of-kind.result c.left_of.result c.kind_of-kind.ensures c.left_of.ensures c.if-kind-lt-CHOICE.false c.if-kind-eq-REPEAT.false
     (one_ordered c.args.i c.requires.one_of) in
     let small : c.args.i < 512 = one_small c.args.i c.requires.one_of in
-    let lower = left_below in
-    let below = small in
     omega arith
 
 pub part_at-left-requires-clause-j_in_bounds : goal.part_at-left-requires-clause-j_in_bounds
@@ -43,8 +40,6 @@ part_at-left-requires-clause-j_in_bounds c =
     let left_below : c.left_of.result < c.args.i = left_lower (held c.args.nodes.now) c.args.i c.kind_of-kind.result c.left_of.result c.kind_of-kind.ensures c.left_of.ensures c.if-kind-lt-CHOICE.false c.if-kind-eq-REPEAT.false
     (one_ordered c.args.i c.requires.one_of) in
     let small : c.args.i < 512 = one_small c.args.i c.requires.one_of in
-    let lower = left_below in
-    let below = small in
     (omega arith, omega arith)
 
 pub returns-then-kind-eq-CHOICE : goal.returns-then-kind-eq-CHOICE

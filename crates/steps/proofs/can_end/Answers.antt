@@ -1,3 +1,4 @@
+-- `steps::can_end` meets its contract. Assumes nothing.
 use mathlib.Core.Path.{refl}
 use native.Mathlib.Nat.{le_refl}
 use Rattle.plan.proofs.Beginnings.{past}

@@ -1,3 +1,4 @@
+-- `steps::start` meets its contract. Assumes nothing.
 use mathlib.Core.Bool.{true, false, true≢false, false≢true}
 use mathlib.Core.Path.{refl, sym, ◌∙◌}
 use Rattle.steps.proofs.Stepping.{start_by_test}

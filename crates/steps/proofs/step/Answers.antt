@@ -1,3 +1,4 @@
+-- `steps::step` meets its contract. Assumes nothing.
 use mathlib.Core.Logic.{inl, inr}
 use native.Mathlib.Omega.{arith}
 use Rattle.steps.proofs.Stepping.{climbs_at, step_turns, step_stays}

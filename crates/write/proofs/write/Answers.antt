@@ -1,3 +1,4 @@
+-- `write::write` meets its contract, by what becomes of the file and then of the run. Assumes nothing.
 use Rattle.meaning.specs.Promises.{Writes}
 use Rattle.judge.proofs.Entering.{barred}
 use Rattle.write.proofs.write.Goals as goal

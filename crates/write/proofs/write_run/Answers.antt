@@ -1,3 +1,4 @@
+-- `write::write_run` meets its contract, by what the two walks lay of the run. Assumes nothing.
 use mathlib.Core.Path.{◌≡◌, sym, subst}
 use Prim.Native.Nat.{ℕ, ◌+◌, ◌-◌, ◌≤◌}
 use native.Mathlib.Omega.{arith}

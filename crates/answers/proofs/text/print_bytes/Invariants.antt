@@ -1,3 +1,4 @@
+-- `answers::text::print_bytes` is safe and ends: each turn prints a piece of what is left. Assumes nothing.
 use Rattle.std.proofs.Common.{◌-◌, ◌≤◌}
 use Rattle.answers.proofs.text.print_bytes.Given as goal
 

@@ -1,3 +1,4 @@
+-- `answers::text::spell` is safe and ends: two digits for each byte stay within the text. Assumes nothing.
 use Rattle.std.proofs.Common.{◌≡◌, ◌-◌, ◌≤◌, length}
 use Rattle.answers.proofs.text.spell.Given as goal
 

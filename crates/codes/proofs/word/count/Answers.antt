@@ -1,3 +1,4 @@
+-- `codes::word::count` meets its contract: its result is the word's ones. Assumes nothing.
 use Rattle.codes.proofs.Digits.{ones_count}
 use Rattle.codes.proofs.word.count.Goals as goal
 

@@ -1,3 +1,4 @@
+-- `codes::word::has` meets its contract: below 64 the bit decides, and nothing from 64 on is in a word. Assumes nothing.
 use mathlib.Core.Path.{◌≡◌}
 use Prim.Native.Nat.{ℕ, ◌/◌, ◌%◌, ◌^◌}
 use native.Mathlib.Omega.{arith}

@@ -1,3 +1,4 @@
+-- `codes::word::lowest` meets its contract: its result is the word's trailing zeros. Assumes nothing.
 use Rattle.codes.proofs.Digits.{trailing_lowest}
 use Rattle.codes.proofs.word.lowest.Goals as goal
 

@@ -1,3 +1,4 @@
+-- `codes::word::one` meets its contract: a shift by less than 64 loses nothing. Assumes nothing.
 use mathlib.Core.Path.{◌≡◌, ◌∙◌}
 use Prim.Native.Nat.{ℕ, ◌*◌, ◌%◌, ◌^◌, ◌<◌}
 use native.Mathlib.Nat.{one-mul}

@@ -1,3 +1,4 @@
+-- `codes::word::shared` meets its contract. Assumes nothing.
 use mathlib.Core.Path.{refl}
 use Rattle.codes.specs.Codes.{both}
 use Rattle.codes.proofs.word.shared.Goals as goal

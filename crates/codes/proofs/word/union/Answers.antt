@@ -1,3 +1,4 @@
+-- `codes::word::union` meets its contract. Assumes nothing.
 use mathlib.Core.Path.{refl}
 use Rattle.codes.specs.Codes.{either}
 use Rattle.codes.proofs.word.union.Goals as goal

@@ -1,3 +1,4 @@
+-- `follow::batch::go_on` meets its contract. Assumes nothing.
 use Prim.Native.Nat.{◌≤◌}
 use native.Mathlib.Omega.{arith}
 use Rattle.meaning.specs.Expr.{Expr}

@@ -1,3 +1,4 @@
+-- `follow::run::can_stop` meets its contract. Assumes nothing.
 use Rattle.follow.proofs.Running.{stop_start, stop_place}
 use Rattle.follow.proofs.run.can_stop.Goals as goal
 

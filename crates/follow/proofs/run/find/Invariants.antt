@@ -1,3 +1,4 @@
+-- `follow::run::find` meets its contract. The loop's invariant: no node passed is the entry wanted. Assumes nothing.
 use mathlib.Core.Path.{◌≡◌}
 use Prim.Native.Nat.{ℕ, ◌≤◌, ◌<◌, ◌-◌}
 use lib.ListN.{get_or}

@@ -1,3 +1,4 @@
+-- `follow::run::go_to` meets its contract. Assumes nothing.
 use Rattle.follow.proofs.Running.{from_start, from_place}
 use Rattle.follow.proofs.run.go_to.Goals as goal
 

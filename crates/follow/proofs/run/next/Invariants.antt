@@ -1,3 +1,5 @@
+-- `follow::run::next` meets its contract. The loop's invariant: q is an event node with the code or past the last, none with the code
+-- below it leads on, and the counters are as they were. Assumes nothing.
 use mathlib.Core.Path.{◌≡◌}
 use Prim.Native.Nat.{◌≤◌, ◌<◌, ◌-◌}
 use lib.ListN.{get_or}

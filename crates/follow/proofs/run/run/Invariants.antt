@@ -1,3 +1,5 @@
+-- `follow::run::run` meets its contract. The loop's invariant: so many events are taken, and whatever goes on from where the run stands
+-- goes on from the first spot. Assumes nothing.
 use Prim.Native.Nat.{◌≤◌, ◌-◌}
 use lib.ListN.{length}
 use Rattle.meaning.specs.Expr.{Expr}

@@ -1,3 +1,4 @@
+-- `follow::run::verdict` meets its contract. Assumes nothing.
 use Rattle.meaning.specs.Theory.Runs.{broken_at}
 use Rattle.follow.proofs.Running.{stands_complete, stands_unfinished}
 use Rattle.follow.proofs.run.verdict.Goals as goal

@@ -1,3 +1,5 @@
+-- `plan::fill::fill_down` meets its contract. The loop's invariant: k repeats stand below i, and what is left of the pass ends as it should.
+-- Assumes nothing.
 use mathlib.Core.Path.{◌≡◌}
 use Prim.Native.Nat.{◌≤◌}
 use Rattle.meaning.specs.Node.{repeats_below}

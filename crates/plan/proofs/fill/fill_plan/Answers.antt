@@ -1,3 +1,4 @@
+-- `plan::fill::fill_plan` meets its contract. Assumes nothing.
 use Rattle.procedure.proofs.Nodes.{listing_some}
 use Rattle.plan.proofs.Whole.{plans_made}
 use Rattle.plan.proofs.fill.fill_plan.Goals as goal

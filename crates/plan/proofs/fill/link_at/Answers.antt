@@ -1,3 +1,4 @@
+-- `plan::fill::link_at` meets its contract, kind by kind. Assumes nothing.
 use native.Mathlib.Omega.{arith}
 use borrow.Author.Rules.{rules}
 use Rattle.procedure.specs.Entry.{held}

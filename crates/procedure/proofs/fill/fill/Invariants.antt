@@ -1,3 +1,4 @@
+-- `procedure::fill::fill` meets its contract. The loop's invariant: the entries below i hold the file's nodes. Assumes nothing.
 use mathlib.Core.Path.{◌≡◌}
 use Prim.Native.Nat.{◌≤◌, ◌-◌}
 use lib.ListN.{length}

@@ -1,3 +1,4 @@
+-- `procedure::nulls::null_at` meets its contract, kind by kind. Assumes nothing.
 use Rattle.procedure.specs.Entry.{held}
 use Rattle.procedure.proofs.Empties.{null_leaf, null_repeat, null_choice, null_sequence}
 use Rattle.procedure.proofs.Standing.{last_order}

@@ -1,3 +1,5 @@
+-- `procedure::order::lowest_out_of_order` meets its contract. The loop's invariant: the starts below i are those of the nodes'
+-- parts. Assumes nothing.
 use mathlib.Core.Path.{◌≡◌}
 use Prim.Native.Nat.{◌≤◌, ◌-◌}
 use lib.ListN.{length}

@@ -1,3 +1,5 @@
+-- `procedure::order::start_of` meets its contract, by what the node says of its children and where their parts begin.
+-- Assumes nothing.
 use mathlib.Core.Path.{sym, subst}
 use Prim.Native.Nat.{ℕ, ◌-◌}
 use native.Mathlib.Omega.{arith}

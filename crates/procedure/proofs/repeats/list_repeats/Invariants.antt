@@ -1,3 +1,5 @@
+-- `procedure::repeats::list_repeats` meets its contract. The loop's invariant: the list begins with the repeats below i, and what stands
+-- in the table below i is true of the parts of those nodes. Assumes nothing.
 use mathlib.Core.Path.{◌≡◌}
 use Prim.Native.Nat.{◌≤◌, ◌-◌}
 use lib.ListN.{length}

@@ -1,3 +1,4 @@
+-- `procedure::table::in_table` meets its contract, by the line of each kind. Assumes nothing.
 use native.Mathlib.Omega.{arith}
 use Rattle.procedure.specs.Entry.{unpacked}
 use Rattle.procedure.proofs.Lines.{empty_decided, event_decided, repeat_decided, pair_kept}

@@ -1,3 +1,5 @@
+-- `procedure::table::lowest_off_table` meets its contract. The loop's invariant: every node below i keeps to the table.
+-- Assumes nothing.
 use Prim.Native.Nat.{ℕ, ◌≤◌, ◌<◌, ◌-◌}
 use Rattle.meaning.specs.Node.{InTable}
 use Rattle.procedure.specs.Entry.{held}

@@ -1,3 +1,4 @@
+-- `procedure::table::no_fields` meets its contract: a number below 65,536 is all kind and code. Assumes nothing.
 use native.Mathlib.Omega.{arith}
 use Rattle.procedure.specs.Entry.{unpacked}
 use Rattle.procedure.proofs.Entries.{field_over}

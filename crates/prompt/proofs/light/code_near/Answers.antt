@@ -1,3 +1,4 @@
+-- `prompt::light::code_near` meets its contract. Assumes nothing.
 use mathlib.Core.Path.{sym, ◌∙◌}
 use native.Mathlib.Omega.{arith}
 use Rattle.procedure.specs.Entry.{held}

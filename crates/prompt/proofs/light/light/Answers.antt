@@ -1,3 +1,4 @@
+-- `prompt::light::light` meets its contract. Assumes nothing.
 use Rattle.meaning.specs.Expr.{Expr}
 use Rattle.procedure.specs.Listing.{Tables}
 use Rattle.plan.specs.Plan.{Plans}

@@ -1,3 +1,4 @@
+-- `prompt::light::lit` meets its contract. Assumes nothing.
 use Rattle.prompt.proofs.Lighting.{lit_as, lit_at_start}
 use Rattle.prompt.proofs.light.lit.Goals as goal
 

@@ -1,3 +1,5 @@
+-- `prompt::light::lit_after` meets its contract. The invariant: the set has the codes of the event nodes passed that are near.
+-- Assumes nothing.
 use Prim.Native.Nat.{◌≤◌, ◌-◌}
 use Rattle.prompt.specs.Near.{CodesNear}
 use Rattle.prompt.proofs.light.lit_after.Given as goal

@@ -1,3 +1,5 @@
+-- `prompt::near::near` meets its contract. The invariant: whatever the way up from x comes to, the way up from p comes to.
+-- Assumes nothing.
 use mathlib.Core.Bool.{Bool}
 use Prim.Native.Nat.{◌≤◌, ◌-◌}
 use Rattle.plan.specs.Plan.{above_at}

@@ -1,3 +1,4 @@
+-- `record::items::item_at` meets its contract, by where the items stand in the bytes. Assumes nothing.
 use mathlib.Core.Path.{sym, ◌∙◌}
 use native.Mathlib.Omega.{arith}
 use Rattle.record.proofs.Bytes.{item_in, item_past}

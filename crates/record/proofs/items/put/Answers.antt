@@ -1,3 +1,4 @@
+-- `record::items::put` meets its contract. Assumes nothing.
 use mathlib.Core.Path.{◌∙◌}
 use native.Mathlib.Omega.{arith}
 use Rattle.record.proofs.Puts.{put_fits, put_past}

@@ -1,3 +1,6 @@
+-- The proof of the cycle of calls {take, take_blocks}: a walk over the part of node i calls itself at lower nodes, and the walk over
+-- the blocks of a repeat calls it at the body. The loops' invariants: whatever the narrowed part takes, the whole takes; and so
+-- many blocks so far, and any blocks are these and more. Assumes nothing.
 use Prim.Native.Nat.{◌+◌, ◌-◌, ◌*◌, ◌≤◌}
 use lib.ListN.{length}
 use Rattle.procedure.specs.Entry.{held}

@@ -1,3 +1,4 @@
+-- `sets::conflict::or_else` meets its contract. Assumes nothing.
 use mathlib.Core.Bool.{false≢true}
 use mathlib.Core.Path.{sym, ◌∙◌}
 use Rattle.sets.specs.Lowest.{first, second}

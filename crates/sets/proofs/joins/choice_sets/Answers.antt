@@ -1,3 +1,4 @@
+-- `sets::joins::choice_sets` meets its contract. Assumes nothing.
 use Rattle.sets.proofs.Joining.{joins_choice}
 use Rattle.sets.proofs.joins.choice_sets.Goals as goal
 

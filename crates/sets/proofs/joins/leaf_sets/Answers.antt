@@ -1,3 +1,4 @@
+-- `sets::joins::leaf_sets` meets its contract. Assumes nothing.
 use mathlib.Core.Logic.{◌↔◌}
 use mathlib.Core.Path.{◌≡◌, sym, subst, ◌∙◌}
 use Prim.Native.Nat.{ℕ}

@@ -1,3 +1,4 @@
+-- `sets::joins::repeat_sets` meets its contract. Assumes nothing.
 use Rattle.sets.proofs.Joining.{over_body}
 use Rattle.sets.proofs.joins.repeat_sets.Goals as goal
 

@@ -1,3 +1,4 @@
+-- `sets::joins::sequence_sets` meets its contract. Assumes nothing.
 use Rattle.sets.proofs.Joining.{joins_sequence}
 use Rattle.sets.proofs.joins.sequence_sets.Goals as goal
 

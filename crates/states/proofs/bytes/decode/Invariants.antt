@@ -1,3 +1,4 @@
+-- `states::bytes::decode` meets its contract. The loop's invariant: the first j counters are those that the bytes hold. Assumes nothing.
 use mathlib.Core.Path.{◌≡◌}
 use Prim.Native.Nat.{◌≤◌, ◌-◌}
 use lib.ListN.{length}

@@ -1,3 +1,4 @@
+-- `states::bytes::encode` meets its contract. The loop's invariant: the bytes hold the node and the first j counters. Assumes nothing.
 use mathlib.Core.Path.{◌≡◌}
 use mathlib.Core.List.{◌∷◌}
 use Prim.Native.Nat.{◌+◌, ◌≤◌, ◌-◌}

@@ -1,3 +1,4 @@
+-- `states::reached::all_fit` meets its contract. The loop's invariant: each repeat of a rank below k passes. Assumes nothing.
 use Prim.Native.Nat.{◌≤◌, ◌-◌}
 use Rattle.states.specs.Standing.{AllFit}
 use Rattle.states.proofs.reached.all_fit.Given as goal

@@ -1,3 +1,4 @@
+-- `states::reached::clear_from` meets its contract. The loop's invariant: the counters from k on and below j are 0. Assumes nothing.
 use Prim.Native.Nat.{◌≤◌, ◌-◌}
 use Rattle.states.proofs.RightCounts.{ClearBelow}
 use Rattle.states.proofs.reached.clear_from.Given as goal

@@ -1,3 +1,4 @@
+-- `states::reached::is_reached` meets its contract. Assumes nothing.
 use mathlib.Core.Path.{sym, ◌∙◌}
 use Rattle.procedure.proofs.Deciding.{fails, holds}
 use Rattle.states.proofs.Standing.{not_past, not_event, not_right, right_decided}

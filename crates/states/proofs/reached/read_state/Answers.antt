@@ -1,3 +1,4 @@
+-- `states::reached::read_state` meets its contract. Assumes nothing.
 use Rattle.procedure.proofs.Deciding.{fails}
 use Rattle.states.specs.Standing.{CanStand}
 use Rattle.states.proofs.ReachedBytes.{other_length_unreached}

@@ -1,3 +1,4 @@
+-- `steps::climb::climb` meets its contract. Assumes nothing.
 use Prim.Native.Nat.{◌≤◌, ◌-◌}
 use Rattle.steps.specs.Climb.{Climbs}
 use Rattle.plan.specs.Plan.{above_at}

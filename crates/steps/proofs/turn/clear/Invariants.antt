@@ -1,3 +1,4 @@
+-- `steps::turn::clear` meets its contract. Assumes nothing.
 use Prim.Native.Nat.{◌≤◌, ◌-◌, max}
 use Rattle.steps.specs.Counts.{Cleared}
 use Rattle.steps.proofs.turn.clear.Given as goal

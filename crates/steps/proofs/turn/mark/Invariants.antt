@@ -1,3 +1,4 @@
+-- `steps::turn::mark` meets its contract. Assumes nothing.
 use mathlib.Core.List.{List}
 use Prim.Native.Nat.{ℕ, ◌-◌}
 use Rattle.steps.specs.Counts.{MarksUp}

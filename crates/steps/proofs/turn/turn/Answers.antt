@@ -1,3 +1,4 @@
+-- `steps::turn::turn` meets its contract. Assumes nothing.
 use native.Mathlib.Omega.{arith}
 use Rattle.steps.proofs.turn.turn.Goals as goal
 

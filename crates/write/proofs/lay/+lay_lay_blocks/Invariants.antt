@@ -1,3 +1,6 @@
+-- The proof of the cycle of calls {lay, lay_blocks}: a walk over the part of node i calls itself at lower nodes, and the walk over the
+-- blocks of a repeat calls it at the body. The loops' invariants: whatever the narrowed part lays from here, the whole lays; and so
+-- many blocks so far, and any blocks are these and more. Assumes nothing.
 use mathlib.Core.Path.{◌≡◌}
 use mathlib.Core.List.{List}
 use Prim.Native.Nat.{ℕ, ◌+◌, ◌-◌, ◌*◌, ◌≤◌}
