@@ -172,12 +172,12 @@ module _ (nodes : List ℕ) (nulls : List Bool) (n : ℕ) (most : n ≤ 512) (fe
       let long1 : length p1 ≡ 512 = m1.long ∙ long0 in
       let long2 : length p2 ≡ 512 = m2.long ∙ long1 in
       let v = right p2 long2 (told_there (root (s + size l) r) ar hr p1 (omega arith) sar shr) in
-      let told-left : Told p2 (root s l) al hl =
+      let told_left : Told p2 (root s l) al hl =
       told_kept p1 p2 (root s l) al hl (get_or-set_other p1 (root (s + size l) r) (root s l) _ 0 (omega arith))
       (told_there (root s l) al hl p0 (omega arith) sal shl) in
       let w =
       left v.after (v.moves.long ∙ long2)
-      (told_kept p2 v.after (root s l) al hl (v.moves.kept (root s l) (inl (omega arith))) told-left) in
+      (told_kept p2 v.after (root s l) al hl (v.moves.kept (root s l) (inl (omega arith))) told_left) in
       let m : Moves s (s + (size l + size r + 1)) p w.after =
       moves_then {c = s} {d = i} (omega arith) (omega arith) (omega arith) (omega arith) m0
       (moves_then {c = s} {d = i} (omega arith) (omega arith) (omega arith) (omega arith) m12

@@ -40,8 +40,8 @@ module _ (g : ℕ → Node) (nulls : List Bool) (i kind : ℕ) (told : kind ≡ 
     pub null_sequence : (left : ℕ) → left ≡ left_of (g i) → 2 ≤ kind → ¬ (kind ≡ 2) → ¬ (kind ≡ 4)
         → NullAt g i (get_or nulls left false && get_or nulls (i - 1) false)
     unfolding TellsNulls NullAt
-    null_sequence left f k no-choice no-repeat = λ s.
-        at_sequence g s i kind told (λ e. (get_or nulls left false && get_or nulls (i - 1) false) ≡ nullable e) left f k no-choice no-repeat
+    null_sequence left f k no_choice no_repeat = λ s.
+        at_sequence g s i kind told (λ e. (get_or nulls left false && get_or nulls (i - 1) false) ≡ nullable e) left f k no_choice no_repeat
         (λ a b p. ap₂ ◌&&◌ (known left (omega (arith, p.next, p.here)) s a p.first p.first_at)
         (known (i - 1) (omega arith) (s + size a) b p.second p.second_at))
 

@@ -76,14 +76,14 @@ module _ (g : ℕ → Node) (s i kind : ℕ) (told : kind ≡ kind_of (g i)) (C 
 
   pub at_sequence : (left : ℕ) → left ≡ left_of (g i) → 2 ≤ kind → ¬ (kind ≡ 2) → ¬ (kind ≡ 4)
       → ((a b : Expr) → Pair g s i left a b → C (sequence a b)) → (e : Expr) → Stands g s e → root s e ≡ i → C e
-  at_sequence left f k no-choice no-repeat c e p h = go e p h (told ∙ standing_kind g i s e p h)
+  at_sequence left f k no_choice no_repeat c e p h = go e p h (told ∙ standing_kind g i s e p h)
     where
       go : (e : Expr) → Stands g s e → root s e ≡ i → kind ≡ kind_number e → C e
       go empty p h m = absurd (omega arith)
       go (event d) p h m = absurd (omega arith)
-      go (choice a b) p h m = absurd (no-choice m)
+      go (choice a b) p h m = absurd (no_choice m)
       go (sequence a b) p h m = c a b (pair g s i left a b 3 (root (s + size a) b) f p.0 p.1 p.2 h)
-      go (repeat d lower upper) p h m = absurd (no-repeat m)
+      go (repeat d lower upper) p h m = absurd (no_repeat m)
 
   pub at_repeat : kind ≡ 4
       → ((b : Expr) → Stands g s b → root s b ≡ i - 1 → s + size b ≡ i → C (repeat b (lower_of (g i)) (bound (upper_of (g i)))))
@@ -128,14 +128,14 @@ last_order g i kind told k o = go o.1 o.2 o.3 (told ∙ standing_kind g i o.0 o.
 -- a node with two children
 pub at_pair : (D : Type 0) (g : ℕ → Node) (s i kind left : ℕ) → kind ≡ kind_of (g i) → left ≡ left_of (g i) → 2 ≤ kind → ¬ (kind ≡ 4)
     → ((a b : Expr) → Pair g s i left a b → D) → Spans g s i → D
-at_pair D g s i kind left told f k no-repeat c part = go part.0 part.1 part.2 (told ∙ standing_kind g i s part.0 part.1 part.2)
+at_pair D g s i kind left told f k no_repeat c part = go part.0 part.1 part.2 (told ∙ standing_kind g i s part.0 part.1 part.2)
   where
     go : (e : Expr) → Stands g s e → root s e ≡ i → kind ≡ kind_number e → D
     go empty p h m = absurd (omega arith)
     go (event d) p h m = absurd (omega arith)
     go (choice a b) p h m = c a b (pair g s i left a b 2 (root (s + size a) b) f p.0 p.1 p.2 h)
     go (sequence a b) p h m = c a b (pair g s i left a b 3 (root (s + size a) b) f p.0 p.1 p.2 h)
-    go (repeat d lower upper) p h m = absurd (no-repeat m)
+    go (repeat d lower upper) p h m = absurd (no_repeat m)
 
 -- the left child stands below its parent
 pub left_lower : (g : ℕ → Node) (i kind left : ℕ) → kind ≡ kind_of (g i) → left ≡ left_of (g i) → 2 ≤ kind → ¬ (kind ≡ 4) → InOrder g i → left < i

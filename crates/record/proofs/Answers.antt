@@ -33,9 +33,9 @@ numbers-back e l x p b h =
 -- ---- what the walk says of the record
 
 module _ (nodes : List ℕ) (n : ℕ) (b : List ℕ) where
-  pub odd-no : ¬ (length b % 2 ≡ 0) → RecordOf nodes n b false
+  pub odd_no : ¬ (length b % 2 ≡ 0) → RecordOf nodes n b false
   unfolding RecordOf
-  odd-no h = λ e l y.
+  odd_no h = λ e l y.
       let same : length b ≡ length (record_bytes y.0) = ap length y.2 in
       h (omega (arith, twos_length (map item_number y.0)))
 
@@ -46,9 +46,9 @@ module _ (nodes : List ℕ) (n : ℕ) (b : List ℕ) where
   leaves r a e l x p same =
       (a e l.stands (listing_root l)).only x [] p (numbers-back e (omega (arith, l.sized, l.few)) x p b same) tt
 
-  pub stuck-no : EatsAt (held nodes) (items_in b) 0 (n - 1) 0 Stuck → RecordOf nodes n b false
+  pub stuck_no : EatsAt (held nodes) (items_in b) 0 (n - 1) 0 Stuck → RecordOf nodes n b false
   unfolding RecordOf
-  stuck-no a = λ e l y.
+  stuck_no a = λ e l y.
       let same : nowhere ≡ from [] = leaves Stuck a e l y.0 y.1 y.2 in
       let c : ◌≡◌ {A = ℕ} 0 1 = cc in
       omega arith
@@ -75,10 +75,10 @@ module _ (nodes : List ℕ) (n : ℕ) (b : List ℕ) where
 
 -- the file was read as n nodes
 module _ {f nodes starts : List ℕ} {nulls : List Bool} {repeats : List ℕ} {n r : ℕ} (filled : Filled f nodes starts nulls repeats n r) (b : List ℕ) where
-  pub checks-yes : RecordOf nodes n b true → Checks f b answer.Yes
+  pub checks_yes : RecordOf nodes n b true → Checks f b answer.Yes
   unfolding RecordOf
-  checks-yes h = let y = h filled.expr filled.tables.listing in Checks.yes filled.expr y.0 filled.holds y.1 y.2
+  checks_yes h = let y = h filled.expr filled.tables.listing in Checks.yes filled.expr y.0 filled.holds y.1 y.2
 
-  pub checks-no : RecordOf nodes n b false → Checks f b answer.No
+  pub checks_no : RecordOf nodes n b false → Checks f b answer.No
   unfolding RecordOf
-  checks-no h = let y = h filled.expr filled.tables.listing in Checks.no filled.expr filled.holds (λ x p e. y (x, p, e))
+  checks_no h = let y = h filled.expr filled.tables.listing in Checks.no filled.expr filled.holds (λ x p e. y (x, p, e))

@@ -67,7 +67,7 @@ tail_same m n u v e = cc
 
 -- ---- the laws of a stay; m is the node of the body
 
-module _ (P : List Item → Type 0) (s m r : ℕ) (next : m + 1 ≡ r) (from-s : s ≤ r) (small : r < 4096) (w : List ℕ) (k : ℕ) where
+module _ (P : List Item → Type 0) (s m r : ℕ) (next : m + 1 ≡ r) (from_s : s ≤ r) (small : r < 4096) (w : List ℕ) (k : ℕ) where
   -- at an opening some block follows
   opened : (u : List ℕ) → Stay P s r w k ((r + 4096) ∷ u) → (j : ℕ) (y : List Item) (t : List ℕ) → Power (Block P r) j y
       → w ≡ map item_number y ++ t → Outside s r t

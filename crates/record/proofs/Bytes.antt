@@ -46,8 +46,8 @@ twos_of_items (x ∷ y ∷ b) h small =
     let q = small 1 in
     let c : (x + 256 * y) % 256 ≡ x = omega arith in
     let above : (x + 256 * y) / 256 ≡ y = omega arith in
-    let small-y : y % 256 ≡ y = omega arith in
-    let d : (x + 256 * y) / 256 % 256 ≡ y = ap (λ (n : ℕ). n % 256) above ∙ small-y in
+    let small_y : y % 256 ≡ y = omega arith in
+    let d : (x + 256 * y) / 256 % 256 ≡ y = ap (λ (n : ℕ). n % 256) above ∙ small_y in
     λ i. c i ∷ d i ∷ e i
 
 -- ---- the item at a place

@@ -66,7 +66,7 @@ module _ (g : ℕ → Node) (w : List ℕ) (s i place k at : ℕ) (first : s ≤
         (subst (λ (v : List ℕ). Eats (Reading s b) s (i - 1) (drop (at + 1) w) (from v)) there.1 goes))
 
   -- the repeat itself
-  module _ (kind : ℕ) (told : kind ≡ kind_of (g i)) (is-repeat : kind ≡ 4) where
+  module _ (kind : ℕ) (told : kind ≡ kind_of (g i)) (is_repeat : kind ≡ 4) where
     -- the readings of the repeat whose body is b
     abbrev RepeatOf : Expr → List Item → Type 0
     RepeatOf b = Times (Block (Reading s b) i) (low (nullable b) (lower_of (g i))) (bound (upper_of (g i)))
@@ -75,7 +75,7 @@ module _ (g : ℕ → Node) (w : List ℕ) (s i place k at : ℕ) (first : s ≤
         → EatsAt g w s i place r
     unfolding EatsAt
     repeat_eats r a =
-        at_repeat g s i kind told (λ x. Eats (Reading s x) s i (drop place w) (remainder_of w r)) is-repeat
+        at_repeat g s i kind told (λ x. Eats (Reading s x) s i (drop place w) (remainder_of w r)) is_repeat
         (λ b p h q.
         subst (λ (j : ℕ). Eats (Times (Block (Reading s b) j) (low (nullable b) (lower_of (g i))) (bound (upper_of (g i)))) s i (drop place w) (remainder_of w r))
         (sym q) (a b p h))

@@ -75,14 +75,14 @@ unfolding EatsAt
 leaf_eats g w s i at kind n (To t) told k small e ins ends =
     let there = item_there w at n e (omega arith) in
     let both = (and-eq-true_iff (eqb kind 1) (eqb n i)).0 ends.0 in
-    let is-event = eqb-true kind 1 both.0 in
-    let same-node = eqb-true n i both.1 in
+    let is_event = eqb-true kind 1 both.0 in
+    let same_node = eqb-true n i both.1 in
     at_leaf g s i kind told (λ x. Eats (Reading s x) s i (drop at w) (from (drop t w))) k
     (λ same z. absurd (omega arith))
     (λ c same z code.
     subst (λ (j : ℕ). Eats (Reading s (event c)) s j (drop at w) (from (drop t w))) (sym same)
     (subst (λ (j : ℕ). Eats (Reading s (event c)) s s (drop at w) (from (drop j w))) (sym ends.1)
-    (event_taken s c n (drop at w) (drop (at + 1) w) there.1 (same-node ∙ same))))
+    (event_taken s c n (drop at w) (drop (at + 1) w) there.1 (same_node ∙ same))))
 leaf_eats g w s i at kind n Stuck told k small e ins ends =
     let there = item_there w at n e (omega arith) in
     at_leaf g s i kind told (λ x. Eats (Reading s x) s i (drop at w) nowhere) k
@@ -130,15 +130,15 @@ module _ (g : ℕ → Node) (w : List ℕ) (s i at kind left : ℕ) (told : kind
         (λ p q t. let there = item_there w at n e (omega arith) in
         choice_right (sides p q t) n (drop at w) (drop (at + 1) w) (remainder_of w r) there.1 ins out (right_eats p q t at r a))
 
-  module _ (k : 2 ≤ kind) (no-choice : ¬ (kind ≡ 2)) (no-repeat : ¬ (kind ≡ 4)) where
+  module _ (k : 2 ≤ kind) (no_choice : ¬ (kind ≡ 2)) (no_repeat : ¬ (kind ≡ 4)) where
     pub sequence_goes : (r : Taken) (next : ℕ) → EatsAt g w s left at (To next) → EatsAt g w (left + 1) (i - 1) next r → EatsAt g w s i at r
     unfolding EatsAt
     sequence_goes r next a b =
-        at_sequence g s i kind told (λ x. Eats (Reading s x) s i (drop at w) (remainder_of w r)) left f k no-choice no-repeat
+        at_sequence g s i kind told (λ x. Eats (Reading s x) s i (drop at w) (remainder_of w r)) left f k no_choice no_repeat
         (λ p q t. sequence_both (sides p q t) (drop at w) (drop next w) (remainder_of w r) (a p t.first t.first_at) (right_eats p q t next r b))
 
     pub sequence_stuck : EatsAt g w s left at Stuck → EatsAt g w s i at Stuck
     unfolding EatsAt
     sequence_stuck a =
-        at_sequence g s i kind told (λ x. Eats (Reading s x) s i (drop at w) nowhere) left f k no-choice no-repeat
+        at_sequence g s i kind told (λ x. Eats (Reading s x) s i (drop at w) nowhere) left f k no_choice no_repeat
         (λ p q t. sequence_nowhere (sides p q t) (drop at w) (a p t.first t.first_at))

@@ -112,16 +112,16 @@ repeat_own i b lower upper a follows p q j k c = (
   λ x. (x.0, x.1.0, ((p c).1 x.1.2, (q c).1 (x.1.1, x.1.3))),
 )
 
-pub over_body : (i lower upper : ℕ) (b : PartSets) (again flexible : Bool) (follows mayFollow after : Codes) (own : Found)
+pub over_body : (i lower upper : ℕ) (b : PartSets) (again flexible : Bool) (follows may_follow after : Codes) (own : Found)
     → Decides (Within 2 (bound upper)) again
     → Decides (Flexible (low b.null lower) (bound upper)) flexible
     → Exactly follows (λ c. So again × Contains b.first c)
-    → Exactly mayFollow (λ c. So flexible × Contains b.first c)
-    → Exactly after (λ c. Contains b.after c ⊎ Contains mayFollow c)
+    → Exactly may_follow (λ c. So flexible × Contains b.first c)
+    → Exactly after (λ c. Contains b.after c ⊎ Contains may_follow c)
     → Lowest (SharedAt i 4 b.after follows) own
     → OverBody i lower upper b (record { first = b.first; after = after; conflict = own })
 unfolding OverBody
-over_body i lower upper b again flexible follows mayFollow after own hagain hflex hg hm ha n e x =
+over_body i lower upper b again flexible follows may_follow after own hagain hflex hg hm ha n e x =
     let comes : Exactly follows (λ c. Within 2 (bound upper) × First e c) = λ c. Iff.trans (hg c) (Iff.and (decides_so _ again hagain) (x.firsts c)) in
     let flex : So flexible ↔ Flexible (low (nullable e) lower) (bound upper) =
     decides_so _ flexible (subst (λ (v : Bool). Decides (Flexible (low v lower) (bound upper)) flexible) x.empties hflex) in

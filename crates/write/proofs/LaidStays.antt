@@ -114,7 +114,7 @@ module _ (g : ℕ → Node) (set : Codes) (run space mid : List ℕ) (i event it
             (dwell_here s b x so_far) (begun s b p q) room u v some (lays_here s b (into u v) lays) in
             let one : suc k ≡ k + 1 = sym (add-one k) in
             let rest = told.0 in
-            let length-block : length (block_of r u) ≡ length u + 2 = omega (arith, length-append u (closing r ∷ [])) in
+            let length_block : length (block_of r u) ≡ length u + 2 = omega (arith, length-append u (closing r ∷ [])) in
             let n : t + 1 ≡ item + length (x ++ block_of r u) = omega (arith, told.1, length-append x (block_of r u)) in (
               x ++ block_of r u,
               subst (λ (j : ℕ). Dwells s b (lower_of (g i)) (bound (upper_of (g i))) (drop event run) j (x ++ block_of r u) (drop a run)) one
@@ -127,7 +127,7 @@ module _ (g : ℕ → Node) (set : Codes) (run space mid : List ℕ) (i event it
 
   -- ---- the repeat itself
 
-  module _ (kind : ℕ) (told : kind ≡ kind_of (g i)) (is-repeat : kind ≡ 4) where
+  module _ (kind : ℕ) (told : kind ≡ kind_of (g i)) (is_repeat : kind ≡ 4) where
     -- what each repeat that stands here lays
     repeat_lays : (r : Laid) (after : List ℕ)
         → ((s : ℕ) (b : Expr) → Stands g s (repeat_at g i b) → s + size b ≡ i → Free (repeat_at g i b)
@@ -136,7 +136,7 @@ module _ (g : ℕ → Node) (set : Codes) (run space mid : List ℕ) (i event it
     unfolding LaysAt
     repeat_lays r after a = λ s e p h free.
         at_repeat g s i kind told
-        (λ e. Stands g s e → Free e → (q : Division) × Lays (Reading s e) e (drop event run) q × Reported run space item q r after) is-repeat
+        (λ e. Stands g s e → Free e → (q : Division) × Lays (Reading s e) e (drop event run) q × Reported run space item q r after) is_repeat
         (λ b _ _ q p free. a s b p q free) e p h p free
 
     module _ (next : NextIn set run at) (room : Within (k + 1) (bound (upper_of (g i)))) (after : List ℕ) where

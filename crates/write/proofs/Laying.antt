@@ -134,7 +134,7 @@ module _ (g : ℕ → Node) (set : Codes) (run space : List ℕ) (i at to : ℕ)
     -- ---- a choice
 
     module _ (after : List ℕ) (r : Laid) (left : ℕ) (f : left ≡ left_of (g i)) (k : kind ≡ 2)
-        (lefts : Codes) (left-begins : SetAt First g left lefts) where
+        (lefts : Codes) (left_begins : SetAt First g left lefts) where
       pub choice_goes_left : NextIn lefts run at → LaysAt g run space left at to r after → LaysAt g run space i at to r after
       unfolding LaysAt SetAt
       choice_goes_left here a = λ s.
@@ -142,10 +142,10 @@ module _ (g : ℕ → Node) (set : Codes) (run space : List ℕ) (i at to : ℕ)
           (λ x y t free.
           let h = a s x t.first t.first_at free.0 in
           let there = next_there set run at next in
-          let there-left = (left-begins s x t.first t.first_at (get_or run at 0)).0 here.1 in (
+          let there_left = (left_begins s x t.first t.first_at (get_or run at 0)).0 here.1 in (
             h.0,
             subst (λ (w : List ℕ). Lays (Reading s (choice x y)) (choice x y) w h.0) (sym there)
-                (choice_left s x y (get_or run at 0) (drop (at + 1) run) h.0 free there-left (subst (λ (w : List ℕ). Lays (Reading s x) x w h.0) there h.1)),
+                (choice_left s x y (get_or run at 0) (drop (at + 1) run) h.0 free there_left (subst (λ (w : List ℕ). Lays (Reading s x) x w h.0) there h.1)),
             h.2,
           ))
 
@@ -158,11 +158,11 @@ module _ (g : ℕ → Node) (set : Codes) (run space : List ℕ) (i at to : ℕ)
           let h = a (s + size x) y t.second t.second_at free.1 in
           let there = next_there set run at next in
           let other : ¬ First x (get_or run at 0) =
-          λ z. out (next.0, (left-begins s x t.first t.first_at (get_or run at 0)).1 z) in
-          let there-right : First y (get_or run at 0) = ⊎_elim (λ z. absurd (other z)) (λ z. z) whole in (
+          λ z. out (next.0, (left_begins s x t.first t.first_at (get_or run at 0)).1 z) in
+          let there_right : First y (get_or run at 0) = ⊎_elim (λ z. absurd (other z)) (λ z. z) whole in (
             h.0,
             subst (λ (w : List ℕ). Lays (Reading s (choice x y)) (choice x y) w h.0) (sym there)
-                (choice_right s x y (get_or run at 0) (drop (at + 1) run) h.0 there-right other
+                (choice_right s x y (get_or run at 0) (drop (at + 1) run) h.0 there_right other
                 (subst (λ (w : List ℕ). Lays (Reading (s + size x) y) y w h.0) there h.1)),
             h.2,
           ))
@@ -171,12 +171,12 @@ module _ (g : ℕ → Node) (set : Codes) (run space : List ℕ) (i at to : ℕ)
 -- ---- a sequence
 
 module _ (g : ℕ → Node) (run space mid : List ℕ) (i at to kind left : ℕ) (told : kind ≡ kind_of (g i)) (f : left ≡ left_of (g i))
-    (k : 2 ≤ kind) (no-choice : ¬ (kind ≡ 2)) (no-repeat : ¬ (kind ≡ 4)) where
+    (k : 2 ≤ kind) (no_choice : ¬ (kind ≡ 2)) (no_repeat : ¬ (kind ≡ 4)) where
   pub sequence_goes : (after : List ℕ) (r : Laid) (a t : ℕ) → LaysAt g run space left at to (To a t) mid → LaysAt g run mid (i - 1) a t r after
       → LaysAt g run space i at to r after
   unfolding LaysAt
   sequence_goes after r a t first second = λ s.
-      at_sequence g s i kind told (λ e. Free e → (q : Division) × Lays (Reading s e) e (drop at run) q × Reported run space to q r after) left f k no-choice no-repeat
+      at_sequence g s i kind told (λ e. Free e → (q : Division) × Lays (Reading s e) e (drop at run) q × Reported run space to q r after) left f k no_choice no_repeat
       (λ x y p free.
       let h = first s x p.first p.first_at free.0 in
       let m = second (s + size x) y p.second p.second_at free.1 in
@@ -195,7 +195,7 @@ module _ (g : ℕ → Node) (run space mid : List ℕ) (i at to kind left : ℕ)
   pub sequence_unlaid : LaysAt g run space left at to Unlaid mid → LaysAt g run space i at to Unlaid mid
   unfolding LaysAt
   sequence_unlaid first = λ s.
-      at_sequence g s i kind told (λ e. Free e → (q : Division) × Lays (Reading s e) e (drop at run) q × Reported run space to q Unlaid mid) left f k no-choice no-repeat
+      at_sequence g s i kind told (λ e. Free e → (q : Division) × Lays (Reading s e) e (drop at run) q × Reported run space to q Unlaid mid) left f k no_choice no_repeat
       (λ x y p free. let h = first s x p.first p.first_at free.0 in none s x y free h.0 h.1 h.2)
     where
       none : (s : ℕ) (x y : Expr) → Free (sequence x y) → (h : Division) → Lays (Reading s x) x (drop at run) h → Reported run space to h Unlaid mid

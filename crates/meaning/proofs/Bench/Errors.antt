@@ -57,9 +57,9 @@ AfterRead e b lower upper c = After b c ⊎ (FlexibleRead e b lower upper × Fir
 pub flexible_by_nothing : Share (AfterRead b2 (event 0) 0 1) (First (optional 0)) × ¬ Share (After (optional 0)) (First (optional 0)) × StronglyDeterministic b2
 unfolding decide
 flexible_by_nothing =
-    let empty-run : Word b2 [] = times 0 (omega arith) (omega arith) none in
+    let empty_run : Word b2 [] = times 0 (omega arith) (omega arith) none in
     let one_word : Power (Word (optional 0)) 1 [] = more 0 [] [] (times 0 (omega arith) (omega arith) none) none in
-    let flexible : FlexibleRead b2 (event 0) 0 1 = ([], [], [], empty-run, (1, 0, one_word, none, omega arith)) in
+    let flexible : FlexibleRead b2 (event 0) 0 1 = ([], [], [], empty_run, (1, 0, one_word, none, omega arith)) in
     ((0, inr (flexible, refl), refl), nothing_shared (no_after_optional 0), answered (decide b2 admitted) tt)
 
 -- after of a sequence, with first of the right added whenever the right may be empty
@@ -109,6 +109,6 @@ empty_blocks_counted =
     let bare : List Item = opening 3 ∷ closing 3 ∷ [] in
     let held : List Item = opening 3 ∷ place 0 0 ∷ closing 3 ∷ [] in
     let nothing : AnyBlock P 3 bare = any_block [] (right nil) in
-    let event-in : AnyBlock P 3 held = any_block (place 0 0 ∷ []) (left one) in
-    let blocks : Power (AnyBlock P 3) 3 (bare ++ (bare ++ held)) = more 2 bare (bare ++ held) nothing (more 1 bare held nothing (more 0 held [] event-in none)) in
+    let event_in : AnyBlock P 3 held = any_block (place 0 0 ∷ []) (left one) in
+    let blocks : Power (AnyBlock P 3) 3 (bare ++ (bare ++ held)) = more 2 bare (bare ++ held) nothing (more 1 bare held nothing (more 0 held [] event_in none)) in
     ((bare ++ (bare ++ held), times 3 (omega arith) (omega arith) blocks, refl, refl), answered (decide b10 (recorded (0 ∷ []) (4099 ∷ 0 ∷ 8195 ∷ []))) tt)

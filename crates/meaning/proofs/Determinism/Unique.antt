@@ -163,10 +163,10 @@ next_agree s e w Via o n g y z (goes_on q m v a r) (goes_on q' m' v' a' r') t =
     let c = sym (take_event m v (node_of s e q) (code_at e q) n k) ∙ t ∙ take_event m' v' (node_of s e q') (code_at e q') n k' in
     let u = o.unique q q' m m' a a' (head-eq_of_cons-eq c) in
     let same_place = u.0 in
-    let same-marks = u.1 in
+    let same_marks = u.1 in
     let same_rest = g q v v' r (subst⁻¹ (λ (p : Place e). Rest s e p v') same_place r') (tail-eq_of_cons-eq c) in
     up_to_marks m v (node_of s e q) (code_at e q) n k
-    ∙ (λ j. same-marks j ++ (item_of s e (same_place j) ∷ same_rest j))
+    ∙ (λ j. same_marks j ++ (item_of s e (same_place j) ∷ same_rest j))
     ∙ sym (up_to_marks m' v' (node_of s e q') (code_at e q') n k')
 
 -- a way from a place is a step

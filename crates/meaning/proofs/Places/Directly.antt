@@ -63,7 +63,7 @@ goes_stepped : (e : Expr) (p : Place e) (y : List Item) → Sound e p → Goes 0
     → StepBetween e (node_of 0 e p) j c
 goes_stepped e p y k (ends d) m v j c n h =
     let held = codes_event m j c v in
-    let none-held = ap {B = ℕ} length (closes_no_event 0 e p) in
+    let none_held = ap {B = ℕ} length (closes_no_event 0 e p) in
     let same = ap {B = ℕ} (λ (x : List Item). length (codes x)) h in
     absurd (omega arith)
 goes_stepped e p y k (steps q w z t r) m v j c n h =

@@ -286,7 +286,7 @@ stepped_iff_near {e} {d} x p j c = (
       let t = part_place 0 d (loose_bounded x) i (code_at e p) ((loose_part x 0 0 refl i (code_at e p)).0 (place_part 0 e p)) in
       let turn = turned_to (way 0 d t.0 j) ((loose_way x 0 0 refl p t.0 t.2 j).1.0 f.0) in
       let k = way_step 0 d t.0 j turn.0 turn.1 in
-      let code-there = subst (λ (n : ℕ). Part 0 d n (event (code_at d turn.0))) k.2 (place_part 0 d turn.0) in
+      let code_there = subst (λ (n : ℕ). Part 0 d n (event (code_at d turn.0))) k.2 (place_part 0 d turn.0) in
       record {
         from = t.0;
         to = turn.0;
@@ -295,7 +295,7 @@ stepped_iff_near {e} {d} x p j c = (
         step = k.1;
         from_node = t.2;
         to_node = k.2;
-        to_code = code_of_node d j (code_at d turn.0) c code-there ((loose_part x 0 0 refl j c).0 f.1);
+        to_code = code_of_node d j (code_at d turn.0) c code_there ((loose_part x 0 0 refl j c).0 f.1);
       },
 )
 

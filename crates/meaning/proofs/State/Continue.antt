@@ -186,7 +186,7 @@ record Along (e : Expr) (u v : List ℕ) (x : List Item) : Type 0 where
   here_parted : ReadingParted e here after
   there_parted : ReadingParted e there after
   here_codes : codes here ≡ u
-  there-codes : codes there ≡ v
+  there_codes : codes there ≡ v
   state : state_of e here ≡ state_of e there
 
 -- runs that reach one state go on alike
@@ -206,7 +206,7 @@ along e h d u v z p (reaches t k g) x r c =
       here_parted = a.1;
       there_parted = same_state_parted e front other a.0 b.0 a.1 b.1 same;
       here_codes = c;
-      there-codes = g;
+      there_codes = g;
       state = same;
     }
 
@@ -222,7 +222,7 @@ along_word : (e : Expr) → Bounded e → (u v w : List ℕ) (x : List Item) →
 along_word e h u v w x g c =
     let rest = codes_rest g.here g.after u w g.here_codes (ap codes (sym g.whole) ∙ c) in
     (word_iff_reading 0 e h (v ++ w)).1
-    (g.there ++ g.after, parted_reading e g.there g.after g.there_parted, codes_join g.there g.after v w g.there-codes rest)
+    (g.there ++ g.after, parted_reading e g.there g.after g.there_parted, codes_join g.there g.after v w g.there_codes rest)
 
 -- words of runs that reach one state
 word_along : (e : Expr) → Bounded e → StronglyDeterministic e → (u v : List ℕ) (z : State) → Reaches e u z → Reaches e v z
@@ -252,14 +252,14 @@ along_reaches : (e : Expr) (u v w : List ℕ) (x : List Item) → Along e u v x 
     → Reaches e (v ++ w) (state_of e (up_to x (length (u ++ w))))
 along_reaches e u v w x g c =
     let t = up_to g.after (length w) in
-    let up-here = ap (λ (y : List Item). up_to y (length (u ++ w))) g.whole ∙ up_along e g.here g.after u w g.here_parted g.here_codes in
-    let up-there = up_along e g.there g.after v w g.there_parted g.there-codes in
-    let rest = codes_rest g.here t u w g.here_codes (ap codes (sym up-here) ∙ c) in
-    let stopped-here = parted_stopped e g.here g.after g.here_parted in
-    let stopped-there = parted_stopped e g.there g.after g.there_parted in
-    subst⁻¹ (Reaches e (v ++ w)) (ap (state_of e) up-here ∙ same_state_after e g.here g.there t stopped-here stopped-there g.state)
-    (reaches_items e (v ++ w) (g.there ++ g.after) (g.there ++ t) (parted_reading e g.there g.after g.there_parted) up-there
-    (codes_join g.there t v w g.there-codes rest))
+    let up_here = ap (λ (y : List Item). up_to y (length (u ++ w))) g.whole ∙ up_along e g.here g.after u w g.here_parted g.here_codes in
+    let up_there = up_along e g.there g.after v w g.there_parted g.there_codes in
+    let rest = codes_rest g.here t u w g.here_codes (ap codes (sym up_here) ∙ c) in
+    let stopped_here = parted_stopped e g.here g.after g.here_parted in
+    let stopped_there = parted_stopped e g.there g.after g.there_parted in
+    subst⁻¹ (Reaches e (v ++ w)) (ap (state_of e) up_here ∙ same_state_after e g.here g.there t stopped_here stopped_there g.state)
+    (reaches_items e (v ++ w) (g.there ++ g.after) (g.there ++ t) (parted_reading e g.there g.after g.there_parted) up_there
+    (codes_join g.there t v w g.there_codes rest))
 
 -- states reached
 reaches_along : (e : Expr) → Bounded e → StronglyDeterministic e → (u v : List ℕ) (z : State) → Reaches e u z → Reaches e v z

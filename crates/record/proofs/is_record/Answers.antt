@@ -7,11 +7,11 @@ use Rattle.procedure.proofs.Empties.{nulls_fewer}
 use Rattle.procedure.proofs.Nodes.{listing_some, one_of}
 use Rattle.record.specs.declared.walk.Taken.TheVariants.{To}
 use Rattle.record.specs.Walk.{EatsAt, Onward, items_in}
-use Rattle.record.proofs.Answers.{all_yes, more_no, odd-no, stuck-no}
+use Rattle.record.proofs.Answers.{all_yes, more_no, odd_no, stuck_no}
 use Rattle.record.proofs.is_record.Goals as goal
 
 pub returns-then-bytes-ne0 : goal.returns-then-bytes-ne0
-returns-then-bytes-ne0 c = let a = c.args in odd-no a.nodes.now a.n a.bytes.now c.if-bytes-ne0.true
+returns-then-bytes-ne0 c = let a = c.args in odd_no a.nodes.now a.n a.bytes.now c.if-bytes-ne0.true
 
 pub overflow_sub-n : goal.overflow_sub-n
 overflow_sub-n c = listing_some c.requires.listing.1
@@ -29,7 +29,7 @@ take-requires-clause-tells_nulls c =
 pub returns-in_default : goal.returns-in_default
 returns-in_default c =
     let a = c.args in
-    stuck-no a.nodes.now a.n a.bytes.now (subst (let a = c.args in EatsAt (held a.nodes.now) (items_in a.bytes.now) 0 (a.n - 1) 0) c.in_default.is c.take.ensures.eats_at)
+    stuck_no a.nodes.now a.n a.bytes.now (subst (let a = c.args in EatsAt (held a.nodes.now) (items_in a.bytes.now) 0 (a.n - 1) 0) c.in_default.is c.take.ensures.eats_at)
 
 pub returns-then-end-bytes : goal.returns-then-end-bytes
 returns-then-end-bytes c =

@@ -60,7 +60,7 @@ pub loop-i-preserved : goal.loop-i-preserved
 loop-i-preserved c =
     let some : 1 ≤ c.args.n = listing_some c.requires.listing.1 in
     let inside : c.loop-i.i < c.args.n = omega (arith, some) in
-    let found-next : (e : Expr) → Listing c.args.nodes.now c.args.n e → Lowest (BelowNode (c.loop-i.i + 1) (ConflictAt 0 e)) c.if-is_one.found = λ e l.
+    let found_next : (e : Expr) → Listing c.args.nodes.now c.args.n e → Lowest (BelowNode (c.loop-i.i + 1) (ConflictAt 0 e)) c.if-is_one.found = λ e l.
     let i = c.loop-i.i in
     let x = c.sets_at-own.result in
     let R = BelowNode (i + 1) (ConflictAt 0 e) in
@@ -78,7 +78,7 @@ loop-i-preserved c =
       simp length-set c.loop-i.invariant.2,
       sets_more First (held c.args.nodes.now) c.loop-i.firsts i x.first (omega arith) c.loop-i.invariant.3 (first_at (held c.args.nodes.now) i x c.sets_at-own.ensures),
       sets_more After (held c.args.nodes.now) c.loop-i.afters i x.after (omega arith) c.loop-i.invariant.4 (after_at (held c.args.nodes.now) i x c.sets_at-own.ensures),
-      found-next,
+      found_next,
     )
 
 pub returns-clause-lowest : goal.returns-clause-lowest

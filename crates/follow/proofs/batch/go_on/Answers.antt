@@ -19,18 +19,18 @@ run-ran-requires-clause-node_le_n c =
     let planned : (e : Expr) → (Tables c.args.nodes.now c.args.starts.now c.args.nulls.now c.args.repeats.now c.args.n c.args.r e)
     → Plans c.args.nodes.now c.args.starts.now c.args.nulls.now c.fill_plan.new.plan c.args.n e = λ e w. c.fill_plan.ensures _ _ e w in
     let told : (e : Expr) → (Tables c.args.nodes.now c.args.starts.now c.args.nulls.now c.args.repeats.now c.args.n c.args.r e) → ReadOf e c.args.bytes.now c.read_state.new.counts c.read_state.result = λ e w. c.read_state.ensures e w in
-    let came-below : c.in-Reached.node ≤ c.args.n = let ready = c.requires in
+    let came_below : c.in-Reached.node ≤ c.args.n = let ready = c.requires in
     let e = ready.0 in
     read_below e c.args.bytes.now c.read_state.new.counts _ _ _ ready.1.listing.sized (told e ready.1) c.in-Reached.is in
     let ready = c.requires in
-    came-below
+    came_below
 
 pub run-ran-requires-clause-plans : goal.run-ran-requires-clause-plans
 run-ran-requires-clause-plans c =
     let planned : (e : Expr) → (Tables c.args.nodes.now c.args.starts.now c.args.nulls.now c.args.repeats.now c.args.n c.args.r e)
     → Plans c.args.nodes.now c.args.starts.now c.args.nulls.now c.fill_plan.new.plan c.args.n e = λ e w. c.fill_plan.ensures _ _ e w in
     let told : (e : Expr) → (Tables c.args.nodes.now c.args.starts.now c.args.nulls.now c.args.repeats.now c.args.n c.args.r e) → ReadOf e c.args.bytes.now c.read_state.new.counts c.read_state.result = λ e w. c.read_state.ensures e w in
-    let came-below : c.in-Reached.node ≤ c.args.n = let ready = c.requires in
+    let came_below : c.in-Reached.node ≤ c.args.n = let ready = c.requires in
     let e = ready.0 in
     read_below e c.args.bytes.now c.read_state.new.counts _ _ _ ready.1.listing.sized (told e ready.1) c.in-Reached.is in
     let ready = c.requires in
@@ -41,7 +41,7 @@ verdict-stands-requires-clause-plans c =
     let planned : (e : Expr) → (Tables c.args.nodes.now c.args.starts.now c.args.nulls.now c.args.repeats.now c.args.n c.args.r e)
     → Plans c.args.nodes.now c.args.starts.now c.args.nulls.now c.fill_plan.new.plan c.args.n e = λ e w. c.fill_plan.ensures _ _ e w in
     let told : (e : Expr) → (Tables c.args.nodes.now c.args.starts.now c.args.nulls.now c.args.repeats.now c.args.n c.args.r e) → ReadOf e c.args.bytes.now c.read_state.new.counts c.read_state.result = λ e w. c.read_state.ensures e w in
-    let came-below : c.in-Reached.node ≤ c.args.n = let ready = c.requires in
+    let came_below : c.in-Reached.node ≤ c.args.n = let ready = c.requires in
     let e = ready.0 in
     read_below e c.args.bytes.now c.read_state.new.counts _ _ _ ready.1.listing.sized (told e ready.1) c.in-Reached.is in
     let ready = c.requires in
@@ -52,7 +52,7 @@ encode-requires-clause-bytes_len c =
     let told : (e : Expr) → (Tables c.args.nodes.now c.args.starts.now c.args.nulls.now c.args.repeats.now c.args.n c.args.r e) → ReadOf e c.args.bytes.now c.read_state.new.counts c.read_state.result = λ e w. c.read_state.ensures e w in
     let planned : (e : Expr) → (Tables c.args.nodes.now c.args.starts.now c.args.nulls.now c.args.repeats.now c.args.n c.args.r e)
     → Plans c.args.nodes.now c.args.starts.now c.args.nulls.now c.fill_plan.new.plan c.args.n e = λ e w. c.fill_plan.ensures _ _ e w in
-    let came-below : c.in-Reached.node ≤ c.args.n = let ready = c.requires in
+    let came_below : c.in-Reached.node ≤ c.args.n = let ready = c.requires in
     let e = ready.0 in
     read_below e c.args.bytes.now c.read_state.new.counts _ _ _ ready.1.listing.sized (told e ready.1) c.in-Reached.is in
     let ready = c.requires in

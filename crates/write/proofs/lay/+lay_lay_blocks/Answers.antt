@@ -28,11 +28,11 @@ pub lay-returns-then-not-next_in-clause-lays_at : goal.lay-returns-then-not-next
 lay-returns-then-not-next_in-clause-lays_at t c =
     let known : (j : ℕ) → j ≤ c.loop-node.i
     → OneOf c.args.nodes.now j × TellsNulls (held c.args.nodes.now) c.args.nulls.now (j + 1) × TellsSets First (held c.args.nodes.now) c.args.firsts.now (j + 1) = λ j h. known_lower c.args.nodes.now c.args.nulls.now c.args.firsts.now c.args.node j (omega (arith, c.loop-node.invariant.1)) c.requires.one_of c.requires.tells_nulls c.requires.tells_sets in
-    let begins-at : (j : ℕ) → j ≤ c.loop-node.i → SetAt First (held c.args.nodes.now) j (get_or c.args.firsts.now j []) = λ j h. set_told First (held c.args.nodes.now) c.args.firsts.now (j + 1) j (known j h).2 (omega arith) in
+    let begins_at : (j : ℕ) → j ≤ c.loop-node.i → SetAt First (held c.args.nodes.now) j (get_or c.args.firsts.now j []) = λ j h. set_told First (held c.args.nodes.now) c.args.firsts.now (j + 1) j (known j h).2 (omega arith) in
     let out = fails _ c.next_in.result c.next_in.ensures c.if-not-next_in.true in
     let r = c.to_if.result in
     c.loop-node.invariant.5 r c.loop-node.space
-    (pass_by (held c.args.nodes.now) (get_or c.args.firsts.now c.loop-node.i []) c.args.run.now c.loop-node.space c.loop-node.i c.loop-node.at c.loop-node.to (begins-at c.loop-node.i (omega arith)) _ r
+    (pass_by (held c.args.nodes.now) (get_or c.args.firsts.now c.loop-node.i []) c.args.run.now c.loop-node.space c.loop-node.i c.loop-node.at c.loop-node.to (begins_at c.loop-node.i (omega arith)) _ r
     (null_told (held c.args.nodes.now) c.args.nulls.now (c.loop-node.i + 1) c.loop-node.i (known c.loop-node.i (omega arith)).1 (omega arith)) out c.to_if.ensures)
 
 pub lay-overflow_add-result-then-kind-lt-CHOICE : goal.lay-overflow_add-result-then-kind-lt-CHOICE
@@ -51,20 +51,20 @@ lay-returns-then-kind-lt-CHOICE-clause-lays_at t c =
     let next_here : NextIn (get_or c.args.firsts.now c.loop-node.i []) c.args.run.now c.loop-node.at = holds _ c.next_in.result c.next_in.ensures c.if-not-next_in.false in
     let known : (j : ℕ) → j ≤ c.loop-node.i
     → OneOf c.args.nodes.now j × TellsNulls (held c.args.nodes.now) c.args.nulls.now (j + 1) × TellsSets First (held c.args.nodes.now) c.args.firsts.now (j + 1) = λ j h. known_lower c.args.nodes.now c.args.nulls.now c.args.firsts.now c.args.node j (omega (arith, c.loop-node.invariant.1)) c.requires.one_of c.requires.tells_nulls c.requires.tells_sets in
-    let begins-at : (j : ℕ) → j ≤ c.loop-node.i → SetAt First (held c.args.nodes.now) j (get_or c.args.firsts.now j []) = λ j h. set_told First (held c.args.nodes.now) c.args.firsts.now (j + 1) j (known j h).2 (omega arith) in
+    let begins_at : (j : ℕ) → j ≤ c.loop-node.i → SetAt First (held c.args.nodes.now) j (get_or c.args.firsts.now j []) = λ j h. set_told First (held c.args.nodes.now) c.args.firsts.now (j + 1) j (known j h).2 (omega arith) in
     let r = To (c.loop-node.at + 1) (c.loop-node.to + 1) in
     c.loop-node.invariant.5 r c.put.new.space
     (subst (LaysAt (held c.args.nodes.now) c.args.run.now c.loop-node.space c.loop-node.i c.loop-node.at c.loop-node.to r) (sym c.put.ensures)
-    (leaf_lays (held c.args.nodes.now) (get_or c.args.firsts.now c.loop-node.i []) c.args.run.now c.loop-node.space c.loop-node.i c.loop-node.at c.loop-node.to (begins-at c.loop-node.i (omega arith))
+    (leaf_lays (held c.args.nodes.now) (get_or c.args.firsts.now c.loop-node.i []) c.args.run.now c.loop-node.space c.loop-node.i c.loop-node.at c.loop-node.to (begins_at c.loop-node.i (omega arith))
     c.kind_of-kind.result c.kind_of-kind.ensures next_here c.if-kind-lt-CHOICE.true))
 
 pub lay-lay_blocks-requires : goal.lay-lay_blocks-requires
 lay-lay_blocks-requires t c =
     let known : (j : ℕ) → j ≤ c.loop-node.i
     → OneOf c.args.nodes.now j × TellsNulls (held c.args.nodes.now) c.args.nulls.now (j + 1) × TellsSets First (held c.args.nodes.now) c.args.firsts.now (j + 1) = λ j h. known_lower c.args.nodes.now c.args.nulls.now c.args.firsts.now c.args.node j (omega (arith, c.loop-node.invariant.1)) c.requires.one_of c.requires.tells_nulls c.requires.tells_sets in
-    let known-here = known c.loop-node.i (omega arith) in (
+    let known_here = known c.loop-node.i (omega arith) in (
       omega (arith, c.requires.one_of, c.loop-node.invariant.1),
-      (known-here.0, (known-here.1, (known-here.2, (c.loop-node.invariant.0, sym c.kind_of-kind.ensures ∙ c.if-kind-eq-REPEAT.true)))),
+      (known_here.0, (known_here.1, (known_here.2, (c.loop-node.invariant.0, sym c.kind_of-kind.ensures ∙ c.if-kind-eq-REPEAT.true)))),
     )
 
 pub lay-returns-then-kind-eq-REPEAT-clause-advances : goal.lay-returns-then-kind-eq-REPEAT-clause-advances
@@ -103,7 +103,7 @@ lay-loop-node-preserved-then-next_in t c =
     let next_here : NextIn (get_or c.args.firsts.now c.loop-node.i []) c.args.run.now c.loop-node.at = holds _ c.next_in.result c.next_in.ensures c.if-not-next_in.false in
     let known : (j : ℕ) → j ≤ c.loop-node.i
     → OneOf c.args.nodes.now j × TellsNulls (held c.args.nodes.now) c.args.nulls.now (j + 1) × TellsSets First (held c.args.nodes.now) c.args.firsts.now (j + 1) = λ j h. known_lower c.args.nodes.now c.args.nulls.now c.args.firsts.now c.args.node j (omega (arith, c.loop-node.invariant.1)) c.requires.one_of c.requires.tells_nulls c.requires.tells_sets in
-    let begins-at : (j : ℕ) → j ≤ c.loop-node.i → SetAt First (held c.args.nodes.now) j (get_or c.args.firsts.now j []) = λ j h. set_told First (held c.args.nodes.now) c.args.firsts.now (j + 1) j (known j h).2 (omega arith) in
+    let begins_at : (j : ℕ) → j ≤ c.loop-node.i → SetAt First (held c.args.nodes.now) j (get_or c.args.firsts.now j []) = λ j h. set_told First (held c.args.nodes.now) c.args.firsts.now (j + 1) j (known j h).2 (omega arith) in
     let left_below : c.left_of-left.result < c.loop-node.i = left_lower (held c.args.nodes.now) c.loop-node.i c.kind_of-kind.result c.left_of-left.result c.kind_of-kind.ensures c.left_of-left.ensures
     c.if-kind-lt-CHOICE.false c.if-kind-eq-REPEAT.false (one_ordered c.loop-node.i (known c.loop-node.i (omega arith)).0) in
     let here = subst (Decides _) c.if-next_in.true c.next_in-then-kind-eq-CHOICE.ensures in (
@@ -113,8 +113,8 @@ lay-loop-node-preserved-then-next_in t c =
       c.loop-node.invariant.3,
       c.loop-node.invariant.4,
       λ r after b. c.loop-node.invariant.5 r after (choice_goes_left (held c.args.nodes.now) (get_or c.args.firsts.now c.loop-node.i []) c.args.run.now c.loop-node.space c.loop-node.i c.loop-node.at c.loop-node.to
-          (begins-at c.loop-node.i (omega arith)) c.kind_of-kind.result c.kind_of-kind.ensures next_here after r c.left_of-left.result c.left_of-left.ensures c.if-kind-eq-CHOICE.true
-          _ (begins-at c.left_of-left.result (omega (arith, left_below))) here b),
+          (begins_at c.loop-node.i (omega arith)) c.kind_of-kind.result c.kind_of-kind.ensures next_here after r c.left_of-left.result c.left_of-left.ensures c.if-kind-eq-CHOICE.true
+          _ (begins_at c.left_of-left.result (omega (arith, left_below))) here b),
     )
 
 pub lay-overflow_sub-i : goal.lay-overflow_sub-i
@@ -139,7 +139,7 @@ lay-loop-node-preserved-else-next_in t c =
     let next_here : NextIn (get_or c.args.firsts.now c.loop-node.i []) c.args.run.now c.loop-node.at = holds _ c.next_in.result c.next_in.ensures c.if-not-next_in.false in
     let known : (j : ℕ) → j ≤ c.loop-node.i
     → OneOf c.args.nodes.now j × TellsNulls (held c.args.nodes.now) c.args.nulls.now (j + 1) × TellsSets First (held c.args.nodes.now) c.args.firsts.now (j + 1) = λ j h. known_lower c.args.nodes.now c.args.nulls.now c.args.firsts.now c.args.node j (omega (arith, c.loop-node.invariant.1)) c.requires.one_of c.requires.tells_nulls c.requires.tells_sets in
-    let begins-at : (j : ℕ) → j ≤ c.loop-node.i → SetAt First (held c.args.nodes.now) j (get_or c.args.firsts.now j []) = λ j h. set_told First (held c.args.nodes.now) c.args.firsts.now (j + 1) j (known j h).2 (omega arith) in
+    let begins_at : (j : ℕ) → j ≤ c.loop-node.i → SetAt First (held c.args.nodes.now) j (get_or c.args.firsts.now j []) = λ j h. set_told First (held c.args.nodes.now) c.args.firsts.now (j + 1) j (known j h).2 (omega arith) in
     let left_below : c.left_of-left.result < c.loop-node.i = left_lower (held c.args.nodes.now) c.loop-node.i c.kind_of-kind.result c.left_of-left.result c.kind_of-kind.ensures c.left_of-left.ensures
     c.if-kind-lt-CHOICE.false c.if-kind-eq-REPEAT.false (one_ordered c.loop-node.i (known c.loop-node.i (omega arith)).0) in
     let some : 1 ≤ c.loop-node.i = omega (arith, left_below) in
@@ -150,8 +150,8 @@ lay-loop-node-preserved-else-next_in t c =
       c.loop-node.invariant.3,
       c.loop-node.invariant.4,
       λ r after b. c.loop-node.invariant.5 r after (choice_goes_right (held c.args.nodes.now) (get_or c.args.firsts.now c.loop-node.i []) c.args.run.now c.loop-node.space c.loop-node.i c.loop-node.at c.loop-node.to
-          (begins-at c.loop-node.i (omega arith)) c.kind_of-kind.result c.kind_of-kind.ensures next_here after r c.left_of-left.result c.left_of-left.ensures c.if-kind-eq-CHOICE.true
-          _ (begins-at c.left_of-left.result (omega (arith, left_below))) out b),
+          (begins_at c.loop-node.i (omega arith)) c.kind_of-kind.result c.kind_of-kind.ensures next_here after r c.left_of-left.result c.left_of-left.ensures c.if-kind-eq-CHOICE.true
+          _ (begins_at c.left_of-left.result (omega (arith, left_below))) out b),
     )
 
 pub lay-lay-requires : goal.lay-lay-requires
@@ -161,9 +161,9 @@ lay-lay-requires t c =
     let left_below : c.left_of-left.result < c.loop-node.i = left_lower (held c.args.nodes.now) c.loop-node.i c.kind_of-kind.result c.left_of-left.result c.kind_of-kind.ensures c.left_of-left.ensures
     c.if-kind-lt-CHOICE.false c.if-kind-eq-REPEAT.false (one_ordered c.loop-node.i (known c.loop-node.i (omega arith)).0) in
     let left = c.left_of-left.result in
-    let known-left = known left (omega arith) in (
+    let known_left = known left (omega arith) in (
       omega (arith, c.requires.one_of, c.loop-node.invariant.1),
-      (known-left.0, (known-left.1, (known-left.2, leeway_narrow c.args.run.now c.loop-node.i c.loop-node.at c.loop-node.to left (omega arith) c.loop-node.invariant.0))),
+      (known_left.0, (known_left.1, (known_left.2, leeway_narrow c.args.run.now c.loop-node.i c.loop-node.at c.loop-node.to left (omega arith) c.loop-node.invariant.0))),
     )
 
 pub lay-returns-in_default-clause-lays_at : goal.lay-returns-in_default-clause-lays_at
@@ -228,17 +228,17 @@ lay_blocks-overflow_sub-i t c =
 
 pub lay_blocks-returns-then-not-another-clause-lays_at : goal.lay_blocks-returns-then-not-another-clause-lays_at
 lay_blocks-returns-then-not-another-clause-lays_at t c =
-    let begins-here : let i = c.args.i in SetAt First (held c.args.nodes.now) i (get_or c.args.firsts.now i []) = set_told First (held c.args.nodes.now) c.args.firsts.now (c.args.i + 1) c.args.i c.requires.tells_sets (omega arith) in
+    let begins_here : let i = c.args.i in SetAt First (held c.args.nodes.now) i (get_or c.args.firsts.now i []) = set_told First (held c.args.nodes.now) c.args.firsts.now (c.args.i + 1) c.args.i c.requires.tells_sets (omega arith) in
     let i = c.args.i in
     let r = c.to_if.result in
     let out = fails _ c.another.result c.another.ensures c.if-not-another.true in
     let ends = halts_decided _ c.may_have.result c.loop-i.at c.loop-i.to r c.may_have.ensures c.to_if.ensures in dwell_stops (held c.args.nodes.now) (get_or c.args.firsts.now c.args.i []) c.args.run.now c.args.space.now c.loop-i.space i c.args.event c.args.item c.loop-i.k c.loop-i.at
-    c.loop-i.to begins-here c.loop-i.invariant.5 (kind_of ((held c.args.nodes.now) i)) refl c.requires.i_value _ r
+    c.loop-i.to begins_here c.loop-i.invariant.5 (kind_of ((held c.args.nodes.now) i)) refl c.requires.i_value _ r
     (null_told (held c.args.nodes.now) c.args.nulls.now (i + 1) (i - 1) c.requires.tells_nulls (omega arith)) out ends
 
 pub lay_blocks-overflow_sub-i-in-loop-i : goal.lay_blocks-overflow_sub-i-in-loop-i
 lay_blocks-overflow_sub-i-in-loop-i t c =
-    let body : 1 ≤ c.args.i = let is-repeat = c.requires.i_value in
+    let body : 1 ≤ c.args.i = let is_repeat = c.requires.i_value in
     (last_order (held c.args.nodes.now) c.args.i (kind_of ((held c.args.nodes.now) c.args.i)) refl (omega arith) (one_ordered c.args.i c.requires.one_of)).1 in
     body
 
@@ -248,11 +248,11 @@ lay_blocks-overflow_add-to t c =
 
 pub lay_blocks-lay-requires : goal.lay_blocks-lay-requires
 lay_blocks-lay-requires t c =
-    let body : 1 ≤ c.args.i = let is-repeat = c.requires.i_value in
+    let body : 1 ≤ c.args.i = let is_repeat = c.requires.i_value in
     (last_order (held c.args.nodes.now) c.args.i (kind_of ((held c.args.nodes.now) c.args.i)) refl (omega arith) (one_ordered c.args.i c.requires.one_of)).1 in
     let begins : let i = c.args.i in
     NextIn (get_or c.args.firsts.now i []) c.args.run.now c.loop-i.at × Within (c.loop-i.k + 1) (bound (upper_of ((held c.args.nodes.now) i))) = holds _ c.another.result c.another.ensures c.if-not-another.false in
-    let leeway-inside : Leeway c.args.run.now (c.args.i - 1) c.loop-i.at (c.loop-i.to + 1) = let room = c.loop-i.invariant.0 in
+    let leeway_inside : Leeway c.args.run.now (c.args.i - 1) c.loop-i.at (c.loop-i.to + 1) = let room = c.loop-i.invariant.0 in
     record {
       short = room.short;
       inside = room.inside;
@@ -260,11 +260,11 @@ lay_blocks-lay-requires t c =
     } in
     let i = c.args.i in
     let k = known_lower c.args.nodes.now c.args.nulls.now c.args.firsts.now i (i - 1) (omega arith) c.requires.one_of c.requires.tells_nulls c.requires.tells_sets in
-    (omega (arith, c.requires.one_of), (k.0, (k.1, (k.2, leeway-inside))))
+    (omega (arith, c.requires.one_of), (k.0, (k.1, (k.2, leeway_inside))))
 
 pub lay_blocks-returns-in_default-clause-lays_at : goal.lay_blocks-returns-in_default-clause-lays_at
 lay_blocks-returns-in_default-clause-lays_at t c =
-    let begins-here : let i = c.args.i in SetAt First (held c.args.nodes.now) i (get_or c.args.firsts.now i []) = set_told First (held c.args.nodes.now) c.args.firsts.now (c.args.i + 1) c.args.i c.requires.tells_sets (omega arith) in
+    let begins_here : let i = c.args.i in SetAt First (held c.args.nodes.now) i (get_or c.args.firsts.now i []) = set_told First (held c.args.nodes.now) c.args.firsts.now (c.args.i + 1) c.args.i c.requires.tells_sets (omega arith) in
     let begins : let i = c.args.i in
     NextIn (get_or c.args.firsts.now i []) c.args.run.now c.loop-i.at × Within (c.loop-i.k + 1) (bound (upper_of ((held c.args.nodes.now) i))) = holds _ c.another.result c.another.ensures c.if-not-another.false in
     let laid : let i = c.args.i in
@@ -273,11 +273,11 @@ lay_blocks-returns-in_default-clause-lays_at t c =
     let i = c.args.i in
     let stuck = subst (λ (r : Laid). LaysAt (held c.args.nodes.now) c.args.run.now (put_at c.loop-i.space c.loop-i.to (i + 4096)) (i - 1) c.loop-i.at (c.loop-i.to + 1) r c.lay.new.space)
     c.in_default.is laid in unlaid_body (held c.args.nodes.now) (get_or c.args.firsts.now c.args.i []) c.args.run.now c.args.space.now c.loop-i.space c.args.i c.args.event c.args.item c.loop-i.k
-    c.loop-i.at c.loop-i.to begins-here c.loop-i.invariant.5 (kind_of ((held c.args.nodes.now) i)) refl c.requires.i_value begins.0 begins.1 c.lay.new.space stuck
+    c.loop-i.at c.loop-i.to begins_here c.loop-i.invariant.5 (kind_of ((held c.args.nodes.now) i)) refl c.requires.i_value begins.0 begins.1 c.lay.new.space stuck
 
 pub lay_blocks-returns-then-a-at-clause-lays_at : goal.lay_blocks-returns-then-a-at-clause-lays_at
 lay_blocks-returns-then-a-at-clause-lays_at t c =
-    let begins-here : let i = c.args.i in SetAt First (held c.args.nodes.now) i (get_or c.args.firsts.now i []) = set_told First (held c.args.nodes.now) c.args.firsts.now (c.args.i + 1) c.args.i c.requires.tells_sets (omega arith) in
+    let begins_here : let i = c.args.i in SetAt First (held c.args.nodes.now) i (get_or c.args.firsts.now i []) = set_told First (held c.args.nodes.now) c.args.firsts.now (c.args.i + 1) c.args.i c.requires.tells_sets (omega arith) in
     let begins : let i = c.args.i in
     NextIn (get_or c.args.firsts.now i []) c.args.run.now c.loop-i.at × Within (c.loop-i.k + 1) (bound (upper_of ((held c.args.nodes.now) i))) = holds _ c.another.result c.another.ensures c.if-not-another.false in
     let laid : let i = c.args.i in
@@ -292,16 +292,16 @@ lay_blocks-returns-then-a-at-clause-lays_at t c =
       subst (Advances c.args.run.now (i - 1) c.loop-i.at (c.loop-i.to + 1)) c.in-To.is c.lay.ensures.advances,
     ) in
     unlaid_event (held c.args.nodes.now) (get_or c.args.firsts.now c.args.i []) c.args.run.now c.args.space.now c.loop-i.space c.args.i c.args.event c.args.item c.loop-i.k
-    c.loop-i.at c.loop-i.to begins-here c.loop-i.invariant.5 (kind_of ((held c.args.nodes.now) c.args.i)) refl c.requires.i_value begins.0 begins.1 c.lay.new.space
+    c.loop-i.at c.loop-i.to begins_here c.loop-i.invariant.5 (kind_of ((held c.args.nodes.now) c.args.i)) refl c.requires.i_value begins.0 begins.1 c.lay.new.space
     c.in-To.a c.in-To.t c.if-a-at.true c.loop-i.invariant.0.inside went.0
 
 pub lay_blocks-overflow_add-to-in-loop-i : goal.lay_blocks-overflow_add-to-in-loop-i
 lay_blocks-overflow_add-to-in-loop-i t c =
-    let body : 1 ≤ c.args.i = let is-repeat = c.requires.i_value in
+    let body : 1 ≤ c.args.i = let is_repeat = c.requires.i_value in
     (last_order (held c.args.nodes.now) c.args.i (kind_of ((held c.args.nodes.now) c.args.i)) refl (omega arith) (one_ordered c.args.i c.requires.one_of)).1 in
     let begins : let i = c.args.i in
     NextIn (get_or c.args.firsts.now i []) c.args.run.now c.loop-i.at × Within (c.loop-i.k + 1) (bound (upper_of ((held c.args.nodes.now) i))) = holds _ c.another.result c.another.ensures c.if-not-another.false in
-    let leeway-inside : Leeway c.args.run.now (c.args.i - 1) c.loop-i.at (c.loop-i.to + 1) = let room = c.loop-i.invariant.0 in
+    let leeway_inside : Leeway c.args.run.now (c.args.i - 1) c.loop-i.at (c.loop-i.to + 1) = let room = c.loop-i.invariant.0 in
     record {
       short = room.short;
       inside = room.inside;
@@ -318,13 +318,13 @@ lay_blocks-overflow_add-to-in-loop-i t c =
           c.in-To.is laid,
       subst (Advances c.args.run.now (i - 1) c.loop-i.at (c.loop-i.to + 1)) c.in-To.is c.lay.ensures.advances,
     ) in
-    omega (arith, reach_over c.args.run.now (c.args.i - 1) c.in-To.a c.in-To.t, went.1.2, leeway-inside.fits)
+    omega (arith, reach_over c.args.run.now (c.args.i - 1) c.in-To.a c.in-To.t, went.1.2, leeway_inside.fits)
 
 pub lay_blocks-loop-i-preserved : goal.lay_blocks-loop-i-preserved
 lay_blocks-loop-i-preserved t c =
-    let body : 1 ≤ c.args.i = let is-repeat = c.requires.i_value in
+    let body : 1 ≤ c.args.i = let is_repeat = c.requires.i_value in
     (last_order (held c.args.nodes.now) c.args.i (kind_of ((held c.args.nodes.now) c.args.i)) refl (omega arith) (one_ordered c.args.i c.requires.one_of)).1 in
-    let begins-here : let i = c.args.i in SetAt First (held c.args.nodes.now) i (get_or c.args.firsts.now i []) = set_told First (held c.args.nodes.now) c.args.firsts.now (c.args.i + 1) c.args.i c.requires.tells_sets (omega arith) in
+    let begins_here : let i = c.args.i in SetAt First (held c.args.nodes.now) i (get_or c.args.firsts.now i []) = set_told First (held c.args.nodes.now) c.args.firsts.now (c.args.i + 1) c.args.i c.requires.tells_sets (omega arith) in
     let begins : let i = c.args.i in
     NextIn (get_or c.args.firsts.now i []) c.args.run.now c.loop-i.at × Within (c.loop-i.k + 1) (bound (upper_of ((held c.args.nodes.now) i))) = holds _ c.another.result c.another.ensures c.if-not-another.false in
     let laid : let i = c.args.i in
@@ -352,5 +352,5 @@ lay_blocks-loop-i-preserved t c =
       c.put-in-loop-i.auto.space ∙ c.lay.auto.space ∙ c.put.auto.space ∙ c.loop-i.invariant.4,
       subst (DwellsAt (held c.args.nodes.now) c.args.run.now c.args.space.now i c.args.event c.args.item (c.loop-i.k + 1) u (v + 1)) (sym c.put-in-loop-i.ensures)
           (dwell_goes (held c.args.nodes.now) (get_or c.args.firsts.now c.args.i []) c.args.run.now c.args.space.now c.loop-i.space c.args.i c.args.event c.args.item c.loop-i.k
-          c.loop-i.at c.loop-i.to begins-here c.loop-i.invariant.5 begins.0 begins.1 u v last more on.1 went.0),
+          c.loop-i.at c.loop-i.to begins_here c.loop-i.invariant.5 begins.0 begins.1 u v last more on.1 went.0),
     )
