@@ -76,7 +76,6 @@ def table():
 
 TOKEN = re.compile(r"(?<![^\s(){}.;,@\"«»`|])" + NAME)
 CLAUSES = re.compile(r"ghost use\b[^;]*;|(?:requires|ensures)\*?\s*(?:\w+\s*)?\{|ghost\s+\w+\s*[:=]\s*\{")
-MADE = re.compile(r"(?:^|[^\w'-])(?:tie|goal|c)$")
 
 
 def turn(text, rows, walked):
@@ -160,10 +159,6 @@ def meetings(rows):
             if old in has and new in words and new not in rows:
                 bad.setdefault(old, []).append(str(path.relative_to(TOP)))
     return bad
-
-
-def capital(match):
-    return match[1] + match[2].capitalize()
 
 
 def module_names():

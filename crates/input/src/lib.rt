@@ -2,23 +2,24 @@
 #![tactic(auto)]
 
 ghost use Rattle.std.specs.Counts.{IsPrefixLen};
+ghost use Rattle.std.specs.Io.KnownBytes.{Consumes};
+ghost use Rattle.std.specs.Prelude.{take};
 
 use std::io::Read;
 
-// Reads until the buffer is full, the input ends or a read fails, and gives how many bytes now begin the buffer.
+// Reads until the buffer is full, the input ends or a read fails, and gives how many bytes now begin the buffer: those that the input
+// had next, and has no more.
 pub fn read_full<R: Read>(input: &mut R, buf: &mut [u8]) -> usize
-    ensures { IsPrefixLen result buf.new }
+    ensures counted { IsPrefixLen result buf.new }
+    ensures bytes { Consumes (R.remaining input.old) (R.remaining input.new) (take result buf.new) }
 {
     let mut done = 0;
     while done < buf.len() {
-        let count = match input.read(&mut buf[done..]) {
-            Ok(count) => count,
-            Err(_) => 0,
-        };
-        if count == 0 {
-            break;
+        match input.read(&mut buf[done..]) {
+            Ok(0) => return done,
+            Ok(count) => done += count,
+            Err(_) => return done,
         }
-        done += count;
     }
     done
 }

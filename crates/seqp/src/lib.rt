@@ -1,5 +1,5 @@
-// The calls for the station's shell, as C sees them. Each gives the request's answer number and always writes its results:
-// a result without a meaning is 0.
+// The five calls, in numbers: `seqp_c` hands them to C. Each gives the request's answer number and always writes its results: a
+// result without a meaning is 0.
 #![tactic(auto)]
 
 ghost use Rattle.meaning.specs.Numbers.{checked, followed, judged, prompted, wrote};
