@@ -39,13 +39,13 @@ extern "C" {
 #endif
 
 /*
- * The version of this header and of the library that it was installed with, also as text: "0.4.1". Before version 1
+ * The version of this header and of the library that it was installed with, also as text: "0.4.2". Before version 1
  * the second number may change a call, as 0.3 did seq_prompt and 0.4 seq_judge: what calls the library is then compiled
  * anew.
  */
 #define SEQ_VERSION_MAJOR 0
 #define SEQ_VERSION_MINOR 4
-#define SEQ_VERSION_PATCH 1
+#define SEQ_VERSION_PATCH 2
 #define SEQ_TEXT_OF(number) #number
 #define SEQ_TEXT(number) SEQ_TEXT_OF(number)
 #define SEQ_VERSION SEQ_TEXT(SEQ_VERSION_MAJOR) "." SEQ_TEXT(SEQ_VERSION_MINOR) "." SEQ_TEXT(SEQ_VERSION_PATCH)
@@ -160,10 +160,10 @@ enum seq_conflict {
  * that is handled on the same stack needs its own besides.
  */
 #define SEQ_JUDGE_STACK 22528
-#define SEQ_FOLLOW_STACK 27648
-#define SEQ_WRITE_STACK 71680
-#define SEQ_CHECK_STACK 40960
-#define SEQ_PROMPT_STACK 27648
+#define SEQ_FOLLOW_STACK 26624
+#define SEQ_WRITE_STACK 67584
+#define SEQ_CHECK_STACK 36864
+#define SEQ_PROMPT_STACK 26624
 
 /*
  * Judges a procedure file.

@@ -20,6 +20,7 @@ FAILS = (
     "computed as far as they go, the two types are `NotFound e`",
     "computed as far as they go, the two sides differ only where one has `lower_of e`",
     "computed as far as they go, the two indices are `Broken`",
+    "computed as far as they go, the two values differ only where one has `c.verdict_number.result`",
     "`omega`: the goal does not follow from what it read. All of that holds, and the goal fails, at `j` = 0, `i` = 0.",
     "`omega`: the part `.fits` of the goal does not follow from what it read. All of that holds, and the part fails.",
     "`search`: no proof of `a ≤ b`",

@@ -1,22 +1,19 @@
 // Answers a stream of calls from standard input, a line for each. Results are filled with junk before a call.
 #![tactic(auto)]
 
+mod hex; // hex.rt: bytes in hexadecimal
 mod stream; // stream.rt: letters and slices from standard input
-mod text; // text.rt: the line of an answer
 
-use std::io::{self, Print, Read};
+use hex::Hex;
+use std::io::{self, Read};
 use stream::{read_letter, read_slice};
-use text::{print_bytes, print_end, print_number};
-
-// The longest slice.
-const MOST: usize = 1048576;
 
 const JUNK: u32 = 0xdead_beef;
 
 const WIDE_JUNK: u64 = 0xdead_beef_dead_beef;
 
-fn answer_judge<R: Read>(rt: &impl Print, input: &mut R, file: &mut [u8]) -> io::Result<bool> {
-    let length = read_slice(input, file);
+fn answer_judge<R: AllocGlobal + Print>(rt: &R, input: &mut impl Read) -> io::Result<()> {
+    let file = read_slice(rt.alloc(), input)?;
     let mut node = JUNK;
     let mut kind = JUNK;
     let mut code = JUNK;
@@ -24,151 +21,62 @@ fn answer_judge<R: Read>(rt: &impl Print, input: &mut R, file: &mut [u8]) -> io:
     let mut high = WIDE_JUNK;
     let mut count = JUNK;
     let answer = seqp::seq_judge(
-        &file[..length],
-        &mut node,
-        &mut kind,
-        &mut code,
-        &mut low,
-        &mut high,
-        &mut count,
+        &file, &mut node, &mut kind, &mut code, &mut low, &mut high, &mut count,
     );
-    rt.write_all(b"J")?;
-    print_number(rt, answer as u64)?;
-    print_number(rt, node as u64)?;
-    print_number(rt, kind as u64)?;
-    print_number(rt, code as u64)?;
-    print_number(rt, low)?;
-    print_number(rt, high)?;
-    print_number(rt, count as u64)?;
-    print_end(rt)?;
-    Ok(true)
+    println!(rt; "J {answer} {node} {kind} {code} {low} {high} {count}")
 }
 
-fn answer_follow<R: Read>(
-    rt: &impl Print,
-    input: &mut R,
-    file: &mut [u8],
-    state: &mut [u8],
-    events: &mut [u8],
-) -> io::Result<bool> {
-    let length = read_slice(input, file);
-    let held = read_slice(input, state);
-    let count = read_slice(input, events);
+fn answer_follow<R: AllocGlobal + Print>(rt: &R, input: &mut impl Read) -> io::Result<()> {
+    let file = read_slice(rt.alloc(), input)?;
+    let mut state = read_slice(rt.alloc(), input)?;
+    let events = read_slice(rt.alloc(), input)?;
     let mut taken = WIDE_JUNK;
     let mut verdict = JUNK;
-    let answer = seqp::seq_follow(
-        &file[..length],
-        &mut state[..held],
-        &events[..count],
-        &mut taken,
-        &mut verdict,
-    );
-    rt.write_all(b"F")?;
-    print_number(rt, answer as u64)?;
-    print_number(rt, taken)?;
-    print_number(rt, verdict as u64)?;
-    print_bytes(rt, state, held)?;
-    print_end(rt)?;
-    Ok(true)
+    let answer = seqp::seq_follow(&file, &mut state, &events, &mut taken, &mut verdict);
+    println!(rt; "F {answer} {taken} {verdict} {}", Hex(&state))
 }
 
-fn answer_write<R: Read>(
-    rt: &impl Print,
-    input: &mut R,
-    file: &mut [u8],
-    run: &mut [u8],
-    space: &mut [u8],
-) -> io::Result<bool> {
-    let length = read_slice(input, file);
-    let events = read_slice(input, run);
-    let room = read_slice(input, space);
-    let mut bytes = WIDE_JUNK;
-    let answer = seqp::seq_write(
-        &file[..length],
-        &run[..events],
-        &mut space[..room],
-        &mut bytes,
-    );
-    rt.write_all(b"W")?;
-    print_number(rt, answer as u64)?;
-    print_number(rt, bytes)?;
-    print_bytes(rt, space, room)?;
-    print_end(rt)?;
-    Ok(true)
+fn answer_write<R: AllocGlobal + Print>(rt: &R, input: &mut impl Read) -> io::Result<()> {
+    let file = read_slice(rt.alloc(), input)?;
+    let run = read_slice(rt.alloc(), input)?;
+    let mut space = read_slice(rt.alloc(), input)?;
+    let mut length = WIDE_JUNK;
+    let answer = seqp::seq_write(&file, &run, &mut space, &mut length);
+    println!(rt; "W {answer} {length} {}", Hex(&space))
 }
 
-fn answer_check<R: Read>(
-    rt: &impl Print,
-    input: &mut R,
-    file: &mut [u8],
-    bytes: &mut [u8],
-) -> io::Result<bool> {
-    let length = read_slice(input, file);
-    let count = read_slice(input, bytes);
+fn answer_check<R: AllocGlobal + Print>(rt: &R, input: &mut impl Read) -> io::Result<()> {
+    let file = read_slice(rt.alloc(), input)?;
+    let bytes = read_slice(rt.alloc(), input)?;
     let mut yes = JUNK;
-    let answer = seqp::seq_check(&file[..length], &bytes[..count], &mut yes);
-    rt.write_all(b"C")?;
-    print_number(rt, answer as u64)?;
-    print_number(rt, yes as u64)?;
-    print_end(rt)?;
-    Ok(true)
+    let answer = seqp::seq_check(&file, &bytes, &mut yes);
+    println!(rt; "C {answer} {yes}")
 }
 
-fn answer_prompt<R: Read>(
-    rt: &impl Print,
-    input: &mut R,
-    file: &mut [u8],
-    state: &mut [u8],
-) -> io::Result<bool> {
-    let length = read_slice(input, file);
-    let held = read_slice(input, state);
+fn answer_prompt<R: AllocGlobal + Print>(rt: &R, input: &mut impl Read) -> io::Result<()> {
+    let file = read_slice(rt.alloc(), input)?;
+    let state = read_slice(rt.alloc(), input)?;
     let mut low = WIDE_JUNK;
     let mut high = WIDE_JUNK;
-    let answer = seqp::seq_prompt(&file[..length], &state[..held], &mut low, &mut high);
-    rt.write_all(b"P")?;
-    print_number(rt, answer as u64)?;
-    print_number(rt, low)?;
-    print_number(rt, high)?;
-    print_end(rt)?;
-    Ok(true)
+    let answer = seqp::seq_prompt(&file, &state, &mut low, &mut high);
+    println!(rt; "P {answer} {low} {high}")
 }
 
-// Answers one call by its letter, and says whether there was one. There is a buffer for each slice that a call can have.
-fn answer_one<R: Read>(
-    rt: &impl Print,
-    input: &mut R,
-    first: &mut [u8],
-    second: &mut [u8],
-    third: &mut [u8],
-) -> io::Result<bool> {
-    match read_letter(input) {
-        b'C' => answer_check(rt, input, first, second),
-        b'F' => answer_follow(rt, input, first, second, third),
-        b'J' => answer_judge(rt, input, first),
-        b'P' => answer_prompt(rt, input, first, second),
-        b'W' => answer_write(rt, input, first, second, third),
-        _ => Ok(false),
-    }
-}
-
-// A proved loop has to end, and nothing says that a stream does: it counts its turns down from a number that no stream uses up.
-fn answer_all<R: Read>(
-    rt: &impl Print,
-    input: &mut R,
-    first: &mut [u8],
-    second: &mut [u8],
-    third: &mut [u8],
-) -> io::Result<()> {
-    let mut turns = u64::MAX;
-    while turns > 0 && answer_one(rt, input, first, second, third)? {
-        turns -= 1;
+// A proved loop has to end, and nothing says that a stream does: no stream uses these turns up.
+fn answer_all<R: AllocGlobal + Print>(rt: &R, input: &mut impl Read) -> io::Result<()> {
+    for _ in 0..u64::MAX {
+        match read_letter(input) {
+            Some(b'C') => answer_check(rt, input)?,
+            Some(b'F') => answer_follow(rt, input)?,
+            Some(b'J') => answer_judge(rt, input)?,
+            Some(b'P') => answer_prompt(rt, input)?,
+            Some(b'W') => answer_write(rt, input)?,
+            _ => break,
+        }
     }
     Ok(())
 }
 
 fn main(rt: HostRuntime) -> io::Result<()> {
-    let mut first = [0u8; MOST];
-    let mut second = [0u8; MOST];
-    let mut third = [0u8; MOST];
-    answer_all(&rt, &mut rt.stdin(), &mut first, &mut second, &mut third)
+    answer_all(&rt, &mut rt.stdin())
 }

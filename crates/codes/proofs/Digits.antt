@@ -1,73 +1,66 @@
--- A word by its digits, the lowest first: its trailing zeros are the lowest that is in it, where something is, and its ones are how many are
--- in it. Assumes nothing.
-use mathlib.Core.Logic.{◌↔◌, inl, inr}
-use mathlib.Core.Path.{◌≡◌, refl, sym, ap, subst, subst₂}
-use Prim.Native.Nat.{ℕ, zero, suc, ◌+◌, ◌/◌, ◌%◌, ◌^◌, ◌≤◌, ◌<◌, suc-le-suc, zero-le}
-use native.Mathlib.Nat.{not-suc-le-zero, le_of_suc-le-suc, pow-suc, zero-lt-suc}
-use native.Mathlib.Numerals.{one-add}
+-- A number by its binary digits, which are the codes that it has. Assumes nothing.
+use mathlib.Core.Logic.{◌↔◌, ◌≢◌, ◌⊎◌, inl, inr, ⊎_elim}
+use mathlib.Core.Path.{◌≡◌, refl, sym, ap, subst, ◌∙◌}
+use Prim.Native.Nat.{ℕ, zero, suc, ◌+◌, ◌%◌, ◌^◌, ◌<◌}
+use native.Mathlib.Decide.{ℕ_discrete}
+use native.Mathlib.Nat.{mod-eq_of_lt, mod-lt}
 use native.Mathlib.Omega.{arith}
-use lib.Count.{ones, ones_step, count_trailing_zeros, under}
+use lib.Bits.{bit_and, bit_or}
+use lib.Count.{ones, ones_cat}
+use lib.Pow.{mod-pow-add, pow_pos}
+use Rattle.std.specs.Int.{bit_at, trailing_zeros, w64}
+use Rattle.std.proofs.lemmas.Nat.Bits.{bit_at-lt, bit_at-pow_other, bit_at-pow_same, bit_at-trailing_zeros, bit_at_and, bit_at_or}
 use Rattle.meaning.specs.Codes.{Has}
-use Rattle.meaning.specs.Properties.{CountBelow, none_below, no_more, one_more}
-use Rattle.meaning.proofs.General.Properties.{count_joined, count_same}
-use Rattle.codes.specs.Codes.{LeastBelow}
-use Rattle.meaning.proofs.General.Digits.{digit_lowest, digit_up}
+use Rattle.meaning.specs.Properties.{CountBelow, Least, none_below, no_more, one_more}
 
-has_zero : (s : ℕ) → Has s zero → s % 2 ≡ 1
+pub only_has : (c d : ℕ) → Has (2 ^ c) d ↔ (d ≡ c)
 unfolding Has
-has_zero s h = rw digit_lowest at h
-
-zero_has : (s : ℕ) → s % 2 ≡ 1 → Has s zero
-unfolding Has
-zero_has s h = rw digit_lowest h
-
--- code c + 1 of a set is code c of its half
-has_half : (s c : ℕ) → Has s (suc c) → Has (s / 2) c
-unfolding Has
-has_half s c h = rw digit_up at h
-
-has_twice : (s c : ℕ) → Has (s / 2) c → Has s (suc c)
-unfolding Has
-has_twice s c h = rw digit_up h
-
--- the lowest digit is 0: what is found is found in the half, one higher
-past_even : (k s t : ℕ) → s % 2 ≡ 0 → LeastBelow k (Has (s / 2)) t → LeastBelow (suc k) (Has s) (suc t)
-past_even k s t e (inl p) = inl (record { holds = has_twice s t p.0.holds; lowest = least }, suc-le-suc p.1)
+only_has c d = (λ h. same h (ℕ_discrete d c), λ e. subst (λ (n : ℕ). bit_at (2 ^ c) n ≡ 1) (sym e) (bit_at-pow_same c))
   where
-    least : (d : ℕ) → Has s d → suc t ≤ d
-    least zero h = absurd (omega (arith, has_zero s h))
-    least (suc d) h = suc-le-suc (p.0.lowest d (has_half s d h))
-past_even k s t e (inr p) = inr (empty, ap suc p.1)
+    same : bit_at (2 ^ c) d ≡ 1 → Dec (d ≡ c) → d ≡ c
+    same h (yes e) = e
+    same h (no n) = absurd (omega (arith, bit_at-pow_other c d n))
+
+pub either_has : (a b c : ℕ) → Has (bit_or a b) c ↔ (Has a c ⊎ Has b c)
+unfolding Has
+either_has a b c = (λ h. which h (ℕ_discrete (bit_at a c) 1), ⊎_elim (λ p. omega (arith, bit_at_or a b c, bit_at-lt b c)) (λ q. omega (arith, bit_at_or a b c, bit_at-lt a c)))
   where
-    empty : (c : ℕ) → c < suc k → ¬ Has s c
-    empty zero l h = omega (arith, has_zero s h)
-    empty (suc c) l h = p.0 c (le_of_suc-le-suc l) (has_half s c h)
+    which : bit_at (bit_or a b) c ≡ 1 → Dec (bit_at a c ≡ 1) → (bit_at a c ≡ 1) ⊎ (bit_at b c ≡ 1)
+    which h (yes p) = inl p
+    which h (no n) = inr (omega (arith, bit_at_or a b c, bit_at-lt a c))
 
--- by the lowest digit, given what is found in the half
-from_half : (k s t r : ℕ) → s % 2 ≡ r → LeastBelow k (Has (s / 2)) t → LeastBelow (suc k) (Has s) (under r t)
-from_half k s t zero e p = past_even k s t e p
-from_half k s t (suc r) e p =
-    inl (record { holds = zero_has s (omega arith); lowest = λ d h. zero-le }, zero-lt-suc k)
+pub both_has : (a b c : ℕ) → Has (bit_and a b) c ↔ (Has a c × Has b c)
+unfolding Has
+both_has a b c = let e = bit_at_and a b c in (λ h. (omega (arith, bit_at-lt a c), omega (arith, bit_at-lt b c)), λ p. omega arith)
 
-pub trailing_lowest : (k s : ℕ) → LeastBelow k (Has s) (count_trailing_zeros k s)
-unfolding count_trailing_zeros
-trailing_lowest zero s = inr (λ c l. absurd (not-suc-le-zero l), refl)
-trailing_lowest (suc k) s = from_half k s (count_trailing_zeros k (s / 2)) (s % 2) refl (trailing_lowest k (s / 2))
+-- the trailing zeros of a word that is not 0 are its lowest code
+pub trailing_lowest : (s : ℕ) → s < 2 ^ 64 → s ≢ 0 → (trailing_zeros w64 s < 64) × Least (Has s) (trailing_zeros w64 s)
+unfolding Has
+trailing_lowest s w n =
+    let t = bit_at-trailing_zeros w64 s (omega arith) w in
+    (t.0, record { holds = t.1; lowest = λ d h. grind (arith, t.2 d) })
 
 -- ---- how many
 
--- the lowest digit alone
-count_digit : (s r : ℕ) → s % 2 ≡ r → CountBelow (Has s) 1 r
-count_digit s zero e = no_more 0 0 (λ h. omega (arith, has_zero s h)) none_below
-count_digit s (suc zero) e = one_more 0 0 (zero_has s e) none_below
-count_digit s (suc (suc r)) e = absurd (omega arith)
+ones_none : 0 ≡ ones 0
+unfolding ones
+ones_none = refl
 
-half_has : (s c : ℕ) → Has (s / 2) c ↔ Has s (1 + c)
-half_has s c = subst (λ (n : ℕ). Has (s / 2) c ↔ Has s n) (sym (one-add c)) (has_twice s c, has_half s c)
+-- the digit k, and those below it
+ones_above : (k s : ℕ) → ones (s % 2 ^ suc k) ≡ ones (bit_at s k) + ones (s % 2 ^ k)
+ones_above k s =
+    let e : 1 + k ≡ suc k = omega arith in
+    ap (λ (n : ℕ). ones (s % 2 ^ n)) (sym e) ∙ ap ones (mod-pow-add s 1 k) ∙ ones_cat k (bit_at s k) (s % 2 ^ k) (mod-lt s (pow_pos k))
+
+count_more : (k s n d : ℕ) → bit_at s k ≡ d → CountBelow (Has s) k n → CountBelow (Has s) (suc k) (ones d + n)
+unfolding ones Has
+count_more k s n zero e below = let z : n ≡ 0 + n = omega arith in subst (CountBelow (Has s) (suc k)) z (no_more k n (λ h. omega arith) below)
+count_more k s n (suc zero) e below = let z : suc n ≡ 1 + n = omega arith in subst (CountBelow (Has s) (suc k)) z (one_more k n e below)
+count_more k s n (suc (suc d)) e below = absurd (omega (arith, bit_at-lt s k))
+
+count_digits : (k s : ℕ) → CountBelow (Has s) k (ones (s % 2 ^ k))
+count_digits zero s = let e : ones 0 ≡ ones (s % 2 ^ 0) = ap ones (omega arith) in subst (CountBelow (Has s) 0) (ones_none ∙ e) none_below
+count_digits (suc k) s = subst (CountBelow (Has s) (suc k)) (sym (ones_above k s)) (count_more k s _ _ refl (count_digits k s))
 
 pub ones_count : (k s : ℕ) → s < 2 ^ k → CountBelow (Has s) k (ones s)
-unfolding ones
-ones_count zero s l = let e : 0 ≡ s = omega arith in subst (λ (n : ℕ). CountBelow (Has s) 0 (ones n)) e none_below
-ones_count (suc k) s l =
-    let rest = count_same (λ c l. half_has s c) (ones_count k (s / 2) (omega (arith, pow-suc 2 k))) in
-    subst₂ (λ (j n : ℕ). CountBelow (Has s) j n) (omega arith) (sym (ones_step s)) (count_joined 1 (count_digit s (s % 2) refl) rest)
+ones_count k s w = subst (λ (n : ℕ). CountBelow (Has s) k (ones n)) (mod-eq_of_lt w) (count_digits k s)

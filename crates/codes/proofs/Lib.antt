@@ -1,4 +1,3 @@
--- The laws that belong to no one function: `Pairs` for whoever hands the words of a set out, the others for the proofs of this crate.
+-- The laws of sets of codes: `Pairs` has those on sets, of which another crate takes what it says of the words that it hands out.
 mod Digits
-mod Members
 pub mod Pairs

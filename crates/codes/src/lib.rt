@@ -1,98 +1,128 @@
-// Sets of codes, as two words: codes 0 to 63 in the first, the low word, and the others, less 64, in the second, the high word.
-// A contract says which codes are in the result (`specs/Codes.antt`).
+// Sets of codes. A contract says which codes are in the result (`specs/Codes.antt`).
 #![tactic(auto)]
 
-ghost use Rattle.std.proofs.Math.Bool.{So};
-ghost use Rattle.std.specs.Prelude.{true, ◌↔◌, ◌⊎◌, ◌≡◌, ℕ, ◌<◌};
+ghost use Rattle.std.specs.Prelude.{IsTrue, ◌↔◌, ◌⊎◌, ◌≡◌, ℕ, ◌<◌};
 ghost use Rattle.meaning.specs.Properties.{CountBelow};
-ghost use Rattle.codes.specs.Codes.{Contains, LowestIn, OneWord, Shared, high_of, limit, low_of};
+ghost use Rattle.codes.specs.Codes.{Contains, LowestIn, Shared, limit};
 
-mod word; // word.rt: one word
+use meaning::Words;
+use std::ops::{BitAnd, BitOr};
 
-// Every code is below this.
-pub const LIMIT: u32 = 2 * word::BITS;
+// The largest code.
+pub const MOST_CODE: u8 = 127;
 
-// The set with no code.
-pub fn none() -> [u64; 2]
-    ensures { (c : ℕ) → ¬ Contains result c }
-{
-    [0, 0]
+// The bits of a word.
+const BITS: u32 = 64;
+
+// A set of codes: codes 0 to 63 are the bits of the low word, and the others, less 64, those of the high word.
+#[derive(Clone, Copy, PartialEq, Eq)]
+pub struct Codes {
+    pub low: u64,
+    pub high: u64,
 }
 
-// The set with this code alone.
-pub fn one(code: u32) -> [u64; 2]
-    requires { code < limit }
-    ensures { (c : ℕ) → Contains result c ↔ (c ≡ code) }
-{
-    if code < word::BITS {
-        return [word::one(code), 0];
+impl Codes {
+    // The set with no code.
+    pub fn none() -> Codes
+        ensures { (c : ℕ) → ¬ Contains result c }
+    {
+        Codes { low: 0, high: 0 }
     }
-    [0, word::one(code - word::BITS)]
+
+    // The set with this code alone.
+    pub fn one(code: u32) -> Codes
+        requires { code < limit }
+        ensures { (c : ℕ) → Contains result c ↔ (c ≡ code) }
+    {
+        if code < BITS {
+            Codes {
+                low: 1 << code,
+                high: 0,
+            }
+        } else {
+            Codes {
+                low: 0,
+                high: 1 << (code - BITS),
+            }
+        }
+    }
+
+    // Whether this code, which may be any number, is in the set.
+    pub fn has(self, code: u32) -> bool
+        ensures { IsTrue result ↔ Contains self code }
+    {
+        if code < BITS {
+            (self.low >> code) % 2 == 1
+        } else if code - BITS < BITS {
+            (self.high >> (code - BITS)) % 2 == 1
+        } else {
+            false
+        }
+    }
+
+    // The lowest code of the set, where it has one.
+    pub fn lowest(self) -> Option<u32>
+        ensures { LowestIn self result }
+    {
+        if self.low != 0 {
+            Some(self.low.trailing_zeros())
+        } else if self.high != 0 {
+            Some(BITS + self.high.trailing_zeros())
+        } else {
+            None
+        }
+    }
+
+    // How many codes the set has.
+    pub fn count(self) -> u32
+        ensures { CountBelow (Contains self) limit result }
+    {
+        self.low.count_ones() + self.high.count_ones()
+    }
+
+    // Whether the set has no code.
+    pub fn is_empty(self) -> bool
+        ensures { IsTrue result ↔ ((c : ℕ) → ¬ Contains self c) }
+    {
+        self.low == 0 && self.high == 0
+    }
 }
 
 // The codes of either set.
-pub fn union(a: [u64; 2], b: [u64; 2]) -> [u64; 2]
-    ensures { (c : ℕ) → Contains result c ↔ (Contains a c ⊎ Contains b c) }
-{
-    [word::union(a[0], b[0]), word::union(a[1], b[1])]
+impl BitOr for Codes {
+    type Output = Codes;
+
+    ghost bitor_gives = { λ a b both. (c : ℕ) → Contains both c ↔ (Contains a c ⊎ Contains b c) };
+
+    fn bitor(self, other: Codes) -> Codes {
+        Codes {
+            low: self.low | other.low,
+            high: self.high | other.high,
+        }
+    }
 }
 
 // The codes that are in both sets.
-pub fn shared(a: [u64; 2], b: [u64; 2]) -> [u64; 2]
-    ensures { (c : ℕ) → Contains result c ↔ Shared a b c }
-{
-    [word::shared(a[0], b[0]), word::shared(a[1], b[1])]
-}
+impl BitAnd for Codes {
+    type Output = Codes;
 
-// Whether this code, which may be any number, is in the set.
-pub fn has(s: [u64; 2], code: u32) -> bool
-    ensures { (result ≡ true) ↔ Contains s code }
-{
-    // Asked for any code, since it tells that one word holds the first.
-    let low = word::has(s[0], code);
-    if code < word::BITS {
-        return low;
+    ghost bitand_gives = { λ a b both. (c : ℕ) → Contains both c ↔ Shared a b c };
+
+    fn bitand(self, other: Codes) -> Codes {
+        Codes {
+            low: self.low & other.low,
+            high: self.high & other.high,
+        }
     }
-    word::has(s[1], code - word::BITS)
 }
 
-// The lowest code of the set, or LIMIT where it has none.
-pub fn lowest(s: [u64; 2]) -> u32
-    ensures { LowestIn s result }
-{
-    let low = word::lowest(s[0]);
-    if low < word::BITS {
-        return low;
+impl From<Codes> for Words {
+    ghost from_gives = { λ s words. (words.low ≡ s.low) × (words.high ≡ s.high) };
+
+    fn from(set: Codes) -> Words {
+        Words {
+            low: set.low,
+            high: set.high,
+        }
     }
-    word::BITS + word::lowest(s[1])
-}
-
-// How many codes the set has.
-pub fn count(s: [u64; 2]) -> u32
-    ensures { CountBelow (Contains s) limit result }
-{
-    let low = word::count(s[0]);
-    let high = word::count(s[1]);
-    low + high
-}
-
-// Whether the set has a code.
-pub fn any(s: [u64; 2]) -> bool
-    ensures { So result ↔ ((c : ℕ) × Contains s c) }
-{
-    word::lowest(word::union(s[0], s[1])) < word::BITS
-}
-
-// The low word.
-pub fn low(s: [u64; 2]) -> u64
-    ensures { (result ≡ low_of s) × OneWord result }
-{
-    word::itself(s[0])
-}
-
-// The high word.
-pub fn high(s: [u64; 2]) -> u64
-    ensures { (result ≡ high_of s) × OneWord result }
-{
-    word::itself(s[1])
 }

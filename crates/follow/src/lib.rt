@@ -3,32 +3,19 @@
 
 ghost use Rattle.meaning.specs.Promises.{Follows};
 
-use judge::Admission;
-use meaning::FollowAnswer;
+use codes::Codes;
+use meaning::{Followed, Refusal};
+use procedure::{MOST_NODES, Procedure};
 
 pub mod run; // run.rt: a run of events
 mod batch; // batch.rt: the events of one call
 
-// Follow: 0 to 8, the number of events taken, and how the run stands. A refusal leaves the state as it came.
-pub fn follow(file: &[u8], state: &mut [u8], events: &[u8]) -> FollowAnswer
+// Follow: the number of events taken, and how the run stands; or refused with 1 to 8. A refusal leaves the state as it came.
+pub fn follow(file: &[u8], state: &mut [u8], events: &[u8]) -> Result<Followed, Refusal>
     ensures { Follows file.now state.old events.now result state.new }
 {
-    let mut nodes = [0u64; 512];
-    let mut starts = [0u16; 512];
-    let mut nulls = [false; 512];
-    let mut repeats = [0u16; 32];
-    let mut firsts = [[0u64; 2]; 512];
-    match judge::admit(
-        file,
-        &mut nodes,
-        &mut starts,
-        &mut nulls,
-        &mut repeats,
-        &mut firsts,
-    ) {
-        Admission::Refused(r) => FollowAnswer::Refused(r),
-        Admission::Nodes(n, r) => {
-            batch::go_on(&nodes, &starts, &nulls, &repeats, n, r, state, events)
-        }
-    }
+    let mut procedure = Procedure::blank();
+    let mut firsts = [Codes::none(); MOST_NODES];
+    judge::admit(file, &mut procedure, &mut firsts)?;
+    batch::go_on(&procedure, state, events)
 }

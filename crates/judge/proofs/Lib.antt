@@ -1,3 +1,2 @@
--- The laws that belong to no one function: `Entering` for whoever uses the judge, `Admissions` for the proofs of this crate.
+-- The laws that belong to no one function.
 mod Admissions
-pub mod Entering

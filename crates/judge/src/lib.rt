@@ -1,70 +1,48 @@
 // The judgement of a procedure file: admitted, or refused with 1 to 7.
-#![tactic(auto)]
+#![tactic(auto, using(crate::proofs::Admissions::answered))]
 
 ghost use Rattle.meaning.specs.Promises.{Judges};
-ghost use Rattle.judge.specs.Admission.{Admits};
+ghost use Rattle.judge.specs.Admission.{Admits, Bars};
 
-use meaning::{JudgeAnswer, Refusal};
-use procedure::Opened;
+use codes::Codes;
+use meaning::{Refusal, Words};
+use procedure::{MOST_NODES, Procedure};
+use sets::conflict::Conflict;
 
-// What becomes of a file.
-#[derive(Clone, Copy)]
-pub enum Admission {
-    // It holds a strongly deterministic expression of so many nodes, of which so many are repeats.
-    Nodes(usize, usize),
-    // The first of 1 to 7 that applies.
-    Refused(Refusal),
+// The refusal of a procedure with this lowest conflict.
+fn refusal_of(conflict: Conflict) -> Refusal
+    ensures { Bars conflict result }
+{
+    Refusal::Conflict {
+        node: conflict.node,
+        kind: conflict.kind,
+        code: conflict.code,
+        shared: Words::from(conflict.shared),
+        count: conflict.shared.count(),
+    }
 }
 
-// The file's nodes as entries with their tables, as `procedure::read` hands them out, and first of each part, where it is admitted. What
-// stands in the tables past these is not said, nor what stands in them where the file is refused.
+// The procedure becomes that of the file, and the table has first of each of its parts, where the file is admitted. Where it is
+// refused, what they then have is not said.
 pub fn admit(
     file: &[u8],
-    nodes: &mut [u64; 512],
-    starts: &mut [u16; 512],
-    nulls: &mut [bool; 512],
-    repeats: &mut [u16; 32],
-    firsts: &mut [[u64; 2]; 512],
-) -> Admission
-    ensures { Admits file.now nodes.new starts.new nulls.new repeats.new firsts.new result }
+    procedure: &mut Procedure,
+    firsts: &mut [Codes; MOST_NODES],
+) -> Result<(), Refusal>
+    ensures { Admits file.now procedure.new firsts.new result }
 {
-    match procedure::read(file, nodes, starts, nulls, repeats) {
-        Opened::Refused(r) => Admission::Refused(r),
-        Opened::Nodes(n, count) => {
-            let found = sets::lowest_conflict(nodes, nulls, firsts, n);
-            let shared = found.shared;
-            let code = codes::lowest(shared);
-            if code < codes::LIMIT {
-                let low = codes::low(shared);
-                let high = codes::high(shared);
-                let many = codes::count(shared);
-                return Admission::Refused(Refusal::Conflict(
-                    found.node, found.kind, code, low, high, many,
-                ));
-            }
-            Admission::Nodes(n, count)
-        }
+    procedure.read(file)?;
+    match sets::lowest_conflict(procedure, firsts) {
+        None => Ok(()),
+        Some(conflict) => Err(refusal_of(conflict)),
     }
 }
 
-// Judge: 0 to 7, with node, kind, code and shared codes.
-pub fn judge(file: &[u8]) -> JudgeAnswer
+// Judge: admitted, or refused with 1 to 7.
+pub fn judge(file: &[u8]) -> Result<(), Refusal>
     ensures { Judges file.now result }
 {
-    let mut nodes = [0u64; 512];
-    let mut starts = [0u16; 512];
-    let mut nulls = [false; 512];
-    let mut repeats = [0u16; 32];
-    let mut firsts = [[0u64; 2]; 512];
-    match admit(
-        file,
-        &mut nodes,
-        &mut starts,
-        &mut nulls,
-        &mut repeats,
-        &mut firsts,
-    ) {
-        Admission::Nodes(_, _) => JudgeAnswer::Admitted,
-        Admission::Refused(r) => JudgeAnswer::Refused(r),
-    }
+    let mut procedure = Procedure::blank();
+    let mut firsts = [Codes::none(); MOST_NODES];
+    admit(file, &mut procedure, &mut firsts)
 }

@@ -2,6 +2,5 @@
 pub mod Files
 pub mod EventNodes
 pub mod Ranks
-pub mod Trailer
 pub mod Refusals
 pub mod FreeText

@@ -1,6 +1,8 @@
 -- The four conflicts.
 use Rattle.std.specs.Prelude.{◌≡◌, ◌⊎◌, ℕ, ◌+◌}
 use Rattle.std.proofs.Math.Bool.{So}
+use Rattle.meaning.specs.declared.ConflictKind.{ConflictKind}
+use Rattle.meaning.specs.declared.ConflictKind.TheVariants as kinds
 use Rattle.meaning.specs.Properties.{Least, CountBelow}
 use Rattle.meaning.specs.Codes.{Has, SetInWords, in_words, most_code}
 use Rattle.meaning.specs.Expr.{Expr, empty, event, choice, sequence, repeat, Within, Part}
@@ -15,6 +17,13 @@ Conflict (choice l r) kind c = (kind ≡ 1) × First l c × First r c
 Conflict (sequence l r) kind c =
     ((kind ≡ 2) × So (nullable l) × First l c × First r c) ⊎ ((kind ≡ 3) × After l c × First r c)
 Conflict (repeat b lower upper) kind c = (kind ≡ 4) × Within 2 upper × After b c × First b c
+
+-- the number of a kind
+abbrev pub kind_number : ConflictKind → ℕ
+kind_number kinds.Choice = 1
+kind_number kinds.EmptyLeft = 2
+kind_number kinds.AfterLeft = 3
+kind_number kinds.Repeat = 4
 
 -- node i has a conflict of the kind with the code, in the expression that begins at s
 abbrev pub ConflictAt : ℕ → Expr → ℕ → ℕ → ℕ → Type 0

@@ -2,11 +2,13 @@
 use Rattle.std.specs.Prelude.{◌≡◌, List, [], ◌∷◌, ◌++◌, ℕ, suc, ◌+◌, ◌-◌, ◌*◌, ◌≤◌, ◌<◌, length, take, drop}
 use Rattle.meaning.specs.declared.Refusal.{Refusal}
 use Rattle.meaning.specs.declared.Refusal.TheVariants.{Size, Letters, Measures, Record, Order, Repeats, Conflict}
+use Rattle.meaning.specs.declared.ConflictKind.{ConflictKind}
+use Rattle.meaning.specs.declared.Words.{Words}
 use Rattle.meaning.specs.Expr.{Expr, size}
 use Rattle.meaning.specs.Bytes.{byte_at, two_at, four_at}
 use Rattle.meaning.specs.Node.{Node, node, InTable, Stands, InOrder, repeats_below}
 use Rattle.meaning.specs.Strong.{StronglyDeterministic}
-use Rattle.meaning.specs.Conflict.{LowestConflict, SharedCodes}
+use Rattle.meaning.specs.Conflict.{LowestConflict, SharedCodes, kind_number}
 
 -- the trailer's four letters
 abbrev pub letters : List ℕ → List ℕ
@@ -89,7 +91,8 @@ pub record Holds (f : List ℕ) (e : Expr) : Type 0 where
 -- the file is refused with one of 1 to 7
 pub data Barred (f : List ℕ) : Refusal → Type 0 where
   malformed : {r : Refusal} → Refused f r → Barred f r
-  conflicting : (e : Expr) (i k c low high n : ℕ) → Holds f e → LowestConflict e i k c → SharedCodes e i k low high n → Barred f (Conflict i k c low high n)
+  conflicting : (e : Expr) (i : ℕ) (k : ConflictKind) (c : ℕ) (w : Words) (n : ℕ) → Holds f e → LowestConflict e i (kind_number k) c
+      → SharedCodes e i (kind_number k) w.low w.high n → Barred f (Conflict i k c w n)
 
 -- the file is admitted: none of 1 to 6 applies, and its expression is strongly deterministic
 pub record Admitted (f : List ℕ) (e : Expr) : Type 0 where

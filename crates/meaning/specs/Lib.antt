@@ -14,6 +14,7 @@ pub mod State
 pub mod Record
 pub mod Loose
 pub mod Codes
+pub mod Answers
 pub mod Numbers
 pub mod Promises
 pub mod Theory

@@ -1,19 +1,11 @@
 -- The request's numbers and values for each case of the answers. Fields without a meaning are 0.
-use Rattle.std.specs.Prelude.{ℕ}
+use Rattle.std.specs.Prelude.{true, false, ℕ, Ok, Err}
 use Rattle.meaning.specs.declared.Refusal.{Refusal}
 use Rattle.meaning.specs.declared.Refusal.TheVariants.{Size, Letters, Measures, Record, Order, Repeats, Conflict, Unreached, Length, Incomplete, Room}
 use Rattle.meaning.specs.declared.Verdict.{Verdict}
 use Rattle.meaning.specs.declared.Verdict.TheVariants.{Complete, Unfinished, Broken}
-use Rattle.meaning.specs.declared.JudgeAnswer.{JudgeAnswer}
-use Rattle.meaning.specs.declared.JudgeAnswer.TheVariants as judge
-use Rattle.meaning.specs.declared.FollowAnswer.{FollowAnswer}
-use Rattle.meaning.specs.declared.FollowAnswer.TheVariants as follow
-use Rattle.meaning.specs.declared.WriteAnswer.{WriteAnswer}
-use Rattle.meaning.specs.declared.WriteAnswer.TheVariants as write
-use Rattle.meaning.specs.declared.CheckAnswer.{CheckAnswer}
-use Rattle.meaning.specs.declared.CheckAnswer.TheVariants as check
-use Rattle.meaning.specs.declared.PromptAnswer.{PromptAnswer}
-use Rattle.meaning.specs.declared.PromptAnswer.TheVariants as prompt
+use Rattle.meaning.specs.Answers.{CheckAnswer, FollowAnswer, JudgeAnswer, PromptAnswer, WriteAnswer}
+use Rattle.meaning.specs.Conflict.{kind_number}
 
 -- the numbers of Judge: 0 to 7, node, kind, code, the two words of the set of shared codes, and how many they are
 pub record JudgeNumbers : Type 0 where
@@ -40,7 +32,7 @@ row Measures = plain 3 0
 row (Record i) = plain 4 i
 row (Order i) = plain 5 i
 row (Repeats i) = plain 6 i
-row (Conflict i k c l h n) = judged 7 i k c l h n
+row (Conflict i k c w n) = judged 7 i (kind_number k) c w.low w.high n
 row Unreached = plain 8 0
 row Length = plain 9 0
 row Incomplete = plain 10 0
@@ -53,8 +45,8 @@ verdict_number Unfinished = 1
 verdict_number Broken = 2
 
 abbrev pub judge_numbers : JudgeAnswer → JudgeNumbers
-judge_numbers judge.Admitted = plain 0 0
-judge_numbers (judge.Refused r) = row r
+judge_numbers (Ok _) = plain 0 0
+judge_numbers (Err r) = row r
 
 -- the numbers of Follow: 0 to 8, the number of events taken, the verdict
 pub record FollowNumbers : Type 0 where
@@ -66,8 +58,8 @@ abbrev pub followed : ℕ → ℕ → ℕ → FollowNumbers
 followed a t v = record { answer = a; taken = t; verdict = v }
 
 abbrev pub follow_numbers : FollowAnswer → FollowNumbers
-follow_numbers (follow.Followed t v) = followed 0 t (verdict_number v)
-follow_numbers (follow.Refused r) = followed (row r).answer 0 0
+follow_numbers (Ok x) = followed 0 x.taken (verdict_number x.verdict)
+follow_numbers (Err r) = followed (row r).answer 0 0
 
 -- the numbers of Write: 0 to 7 or 9 to 11, the length in bytes
 pub record WriteNumbers : Type 0 where
@@ -78,8 +70,8 @@ abbrev pub wrote : ℕ → ℕ → WriteNumbers
 wrote a n = record { answer = a; length = n }
 
 abbrev pub write_numbers : WriteAnswer → WriteNumbers
-write_numbers (write.Written n) = wrote 0 n
-write_numbers (write.Refused r) = wrote (row r).answer 0
+write_numbers (Ok n) = wrote 0 n
+write_numbers (Err r) = wrote (row r).answer 0
 
 -- the numbers of Check: 0 to 6, yes (1) or no (0)
 pub record CheckNumbers : Type 0 where
@@ -90,9 +82,9 @@ abbrev pub checked : ℕ → ℕ → CheckNumbers
 checked a y = record { answer = a; yes = y }
 
 abbrev pub check_numbers : CheckAnswer → CheckNumbers
-check_numbers check.Yes = checked 0 1
-check_numbers check.No = checked 0 0
-check_numbers (check.Refused r) = checked (row r).answer 0
+check_numbers (Ok true) = checked 0 1
+check_numbers (Ok false) = checked 0 0
+check_numbers (Err r) = checked (row r).answer 0
 
 -- the numbers of Prompt: 0 to 8, the two words of the set
 pub record PromptNumbers : Type 0 where
@@ -104,5 +96,5 @@ abbrev pub prompted : ℕ → ℕ → ℕ → PromptNumbers
 prompted a l h = record { answer = a; low = l; high = h }
 
 abbrev pub prompt_numbers : PromptAnswer → PromptNumbers
-prompt_numbers (prompt.Lit l h) = prompted 0 l h
-prompt_numbers (prompt.Refused r) = prompted (row r).answer 0 0
+prompt_numbers (Ok x) = prompted 0 x.low x.high
+prompt_numbers (Err r) = prompted (row r).answer 0 0

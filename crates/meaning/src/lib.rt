@@ -1,8 +1,28 @@
-// The answer types that more than one crate uses. `specs/Numbers.antt` gives the request's number for each case.
+// Refusals, and what the five calls answer: each gives a `Result` with a `Refusal`. `specs/Numbers.antt` has the request's numbers.
 #![tactic(auto)]
 
+// A set of codes as two words: codes 0 to 63 as the bits of `low`, and the others, less 64, as those of `high`.
+#[derive(Clone, Copy, PartialEq, Eq)]
+pub struct Words {
+    pub low: u64,
+    pub high: u64,
+}
+
+// The kinds of conflicts, in the order of their numbers from 1 on.
+#[derive(Clone, Copy, PartialEq, Eq, PartialOrd, Ord)]
+pub enum ConflictKind {
+    // Both parts of a choice can begin with the code.
+    Choice,
+    // Both parts of a sequence can begin with it, and the left can be empty.
+    EmptyLeft,
+    // The left part of a sequence can go on with it, and the right can begin with it.
+    AfterLeft,
+    // A block of a repeat can go on with it, and the next can begin with it.
+    Repeat,
+}
+
 // Why a call is refused: a case for each number from 1 on, in the order of the table.
-#[derive(Clone, Copy)]
+#[derive(Clone, Copy, PartialEq, Eq)]
 pub enum Refusal {
     // 1: the file is under 20 or over 8,204 bytes.
     Size,
@@ -16,9 +36,14 @@ pub enum Refusal {
     Order(usize),
     // 6: this node is the 33rd repeat.
     Repeats(usize),
-    // 7: the lowest conflict: its node, its kind, the lowest of its shared codes, all of them as a set in two words, low word first, and
-    // how many they are.
-    Conflict(usize, u32, u32, u64, u64, u32),
+    // 7: the lowest conflict: its node, its kind, the lowest of its shared codes, all of them as a set, and how many they are.
+    Conflict {
+        node: usize,
+        kind: ConflictKind,
+        code: u32,
+        shared: Words,
+        count: u32,
+    },
     // 8: the state is not 66 bytes, or no beginning of a word reaches it.
     Unreached,
     // 9: the run to be written is over 65,536 events.
@@ -30,7 +55,7 @@ pub enum Refusal {
 }
 
 // How a run stands.
-#[derive(Clone, Copy)]
+#[derive(Clone, Copy, PartialEq, Eq)]
 pub enum Verdict {
     // All events were taken, and the run is a word.
     Complete,
@@ -40,49 +65,9 @@ pub enum Verdict {
     Broken,
 }
 
-// What Judge answers.
-#[derive(Clone, Copy)]
-pub enum JudgeAnswer {
-    // The file holds a strongly deterministic expression.
-    Admitted,
-    // 1 to 7.
-    Refused(Refusal),
-}
-
-// What Follow answers.
-#[derive(Clone, Copy)]
-pub enum FollowAnswer {
-    // So many events were taken, and so the run stands.
-    Followed(u64, Verdict),
-    // 1 to 8.
-    Refused(Refusal),
-}
-
-// What Write answers.
-#[derive(Clone, Copy)]
-pub enum WriteAnswer {
-    // The record stands in so many bytes of the space.
-    Written(u64),
-    // 1 to 7, or 9 to 11.
-    Refused(Refusal),
-}
-
-// What Check answers.
-#[derive(Clone, Copy)]
-pub enum CheckAnswer {
-    // The bytes are the record of a reading.
-    Yes,
-    // They are not.
-    No,
-    // 1 to 6.
-    Refused(Refusal),
-}
-
-// What Prompt answers.
-#[derive(Clone, Copy)]
-pub enum PromptAnswer {
-    // The codes to light: codes 0 to 63 as the bits of the low word, and the others, less 64, as those of the high word.
-    Lit(u64, u64),
-    // 1 to 8.
-    Refused(Refusal),
+// What Follow answers: so many events were taken, and so the run stands.
+#[derive(Clone, Copy, PartialEq, Eq)]
+pub struct Followed {
+    pub taken: u64,
+    pub verdict: Verdict,
 }

@@ -2,70 +2,36 @@
 #![tactic(auto)]
 
 ghost use Rattle.std.specs.Prelude.{◌≡◌, ◌+◌, ◌<◌, length};
-ghost use Rattle.meaning.specs.Bytes.{byte_at, two_at, four_at};
+ghost use Rattle.meaning.specs.Bytes.{two_at, four_at};
 ghost use Rattle.numbers.specs.Put.{put_two, put_four};
 
-// How many numbers one byte tells apart, and two.
-const BYTE: u64 = 256;
-
+// How many numbers two bytes tell apart.
 const TWO_BYTES: u64 = 65536;
 
-fn wide_byte(x: u8) -> u64
-    ensures value { result ≡ x }
-    ensures upper_bound { result < 256 }
-{
-    x as u64
-}
-
-// A number of two bytes, as a place.
-pub fn wide(x: u16) -> usize
-    ensures { result ≡ x }
-{
-    x as usize
-}
-
-// A place, as a number of two bytes.
-pub fn narrow(x: usize) -> u16
-    requires { x < 65536 }
-    ensures { result ≡ x }
-{
-    x as u16
-}
-
-// The byte at `at`.
-pub fn byte_at(bytes: &[u8], at: usize) -> u64
-    requires { at < length bytes.now }
-    ensures value { result ≡ byte_at bytes.now at }
-    ensures upper_bound { result < 256 }
-{
-    wide_byte(bytes[at])
-}
-
 // The number in the two bytes from `at` on.
-pub fn two_at(bytes: &[u8], at: usize) -> u64
+pub fn two_at(bytes: &[u8], at: usize) -> u16
     requires { at + 1 < length bytes.now }
-    ensures value { result ≡ two_at bytes.now at }
-    ensures upper_bound { result < 65536 }
+    ensures { result ≡ two_at bytes.now at }
 {
-    wide_byte(bytes[at]) + BYTE * wide_byte(bytes[at + 1])
+    u16::from_le_bytes([bytes[at], bytes[at + 1]])
 }
 
 // The number in the four bytes from `at` on.
-pub fn four_at(bytes: &[u8], at: usize) -> u64
+pub fn four_at(bytes: &[u8], at: usize) -> u32
     requires { at + 3 < length bytes.now }
-    ensures value { result ≡ four_at bytes.now at }
-    ensures upper_bound { result < 4294967296 }
+    ensures { result ≡ four_at bytes.now at }
 {
-    two_at(bytes, at) + TWO_BYTES * two_at(bytes, at + 2)
+    u32::from_le_bytes([bytes[at], bytes[at + 1], bytes[at + 2], bytes[at + 3]])
 }
 
-// The lowest two bytes of the number go into the two bytes from `at` on.
+// The lowest two bytes of the number, which may be any, go into the two bytes from `at` on.
 pub fn put_two(bytes: &mut [u8], at: usize, x: u64)
     requires { at + 1 < length bytes.old }
     ensures { bytes.new ≡ put_two bytes.old at x }
 {
-    bytes[at] = (x % BYTE) as u8;
-    bytes[at + 1] = (x / BYTE % BYTE) as u8;
+    let [low, high, ..] = x.to_le_bytes();
+    bytes[at] = low;
+    bytes[at + 1] = high;
 }
 
 // The lowest four bytes of the number go into the four bytes from `at` on.

@@ -7,6 +7,7 @@ use Prim.Native.Nat.{ℕ, zero, suc, ◌+◌, ◌≤◌, ◌<◌}
 use native.Mathlib.Decide.{dec_le}
 use native.Mathlib.Omega.{arith}
 use borrow.Author.Tests.{eq-eqb, ne_eqb, le-leb, lt-leb}
+use Rattle.plan.specs.Link.{Links}
 use Rattle.meaning.specs.Expr.{Expr, empty, event, choice, sequence, repeat, Upper, size, root}
 use Rattle.meaning.specs.Node.{Node, node, Stands}
 use Rattle.meaning.specs.Normal.{nullable}
@@ -38,7 +39,7 @@ outside s (sequence l r) q h =
 outside s (repeat b lower upper) q h = rw (outside s b q (⊎_elim inl (λ k. inr (omega arith)) h))
 
 -- node q of the part begins it, and then the plan says h of q; or it does not, and the plan says a node below the part's own
-pub data Begun (plan : List ℕ) (s : ℕ) (e : Expr) (h q : ℕ) : Type 0 where
+pub data Begun (plan : Links) (s : ℕ) (e : Expr) (h q : ℕ) : Type 0 where
   begun : (t : Place e) → entry s e q ≡ enters t → CanStart e t → node_of s e t ≡ q → begins_at plan q ≡ h → Begun plan s e h q
   inner : entry s e q ≡ apart → begins_at plan q < root s e → Begun plan s e h q
 
@@ -54,7 +55,7 @@ among {P} m i q l low mid own = side (dec_le m q) (dec_le i q)
     side (yes a) (no b) = mid a (omega arith)
     side (no a) b = low (omega arith)
 
-module _ (plan : List ℕ) (s : ℕ) (l r : Expr) (h q : ℕ) where
+module _ (plan : Links) (s : ℕ) (l r : Expr) (h q : ℕ) where
   left_choice : q < s + size l → Begun plan s l h q → Begun plan s (choice l r) h q
   left_choice below (begun t e c n b) = begun (inl t) (rw e) c n b
   left_choice below (inner e b) =
@@ -83,12 +84,12 @@ module _ (plan : List ℕ) (s : ℕ) (l r : Expr) (h q : ℕ) where
   right_sequence false f from (begun t e c n m) =
       inner (rw (outside s l q (inr from), f)) (omega (arith, root-size (s + size l) r))
 
-in_repeat : (plan : List ℕ) (s : ℕ) (b : Expr) (lower : ℕ) (upper : Upper) (h q : ℕ) → Begun plan s b h q → Begun plan s (repeat b lower upper) h q
+in_repeat : (plan : Links) (s : ℕ) (b : Expr) (lower : ℕ) (upper : Upper) (h q : ℕ) → Begun plan s b h q → Begun plan s (repeat b lower upper) h q
 in_repeat plan s b lower upper h q (begun t e c n m) = begun (t, zero) (rw e) (c, refl) n m
 in_repeat plan s b lower upper h q (inner e m) = inner (rw e) (omega (arith, root-size s b))
 
 -- what the plan says of an event node q of a part
-pub begins : (g : ℕ → Node) (plan : List ℕ) (s : ℕ) (e : Expr) (a h q : ℕ) → Stands g s e → Planned plan s e a h → kind_of (g q) ≡ 1
+pub begins : (g : ℕ → Node) (plan : Links) (s : ℕ) (e : Expr) (a h q : ℕ) → Stands g s e → Planned plan s e a h → kind_of (g q) ≡ 1
     → s ≤ q → q < s + size e → Begun plan s e h q
 begins g plan s empty a h q st pl k from below =
     absurd (omega (arith, kind_apart st (subst (λ (i : ℕ). kind_of (g i) ≡ 1) (omega arith) k)))
@@ -121,7 +122,7 @@ pub data Target (g : ℕ → Node) (n q : ℕ) : Type 0 where
   at : kind_of (g q) ≡ 1 → Target g n q
   past : n ≤ q → Target g n q
 
-by_test : (starts plan : List ℕ) (s : ℕ) (e : Expr) (h q : ℕ) → root s e ≤ h → start_at starts (root s e) ≡ s → s ≤ q → q ≤ root s e
+by_test : (starts : List ℕ) (plan : Links) (s : ℕ) (e : Expr) (h q : ℕ) → root s e ≤ h → start_at starts (root s e) ≡ s → s ≤ q → q ≤ root s e
     → Begun plan s e h q → BeginsWith s e q (begins_of starts plan (root s e) q)
 by_test starts plan s e h q up st from below (begun t f c n b) =
     rw (
@@ -139,7 +140,7 @@ by_test starts plan s e h q up st from below (inner f b) =
     (does_not f)
 
 -- one comparison tells whether a part begins with node q
-pub begins_by_test : (g : ℕ → Node) (starts plan : List ℕ) (n s : ℕ) (e : Expr) (a h q : ℕ) → Stands g s e → Planned plan s e a h
+pub begins_by_test : (g : ℕ → Node) (starts : List ℕ) (plan : Links) (n s : ℕ) (e : Expr) (a h q : ℕ) → Stands g s e → Planned plan s e a h
     → start_at starts (root s e) ≡ s → root s e ≤ h → s + size e ≤ n → Target g n q → BeginsWith s e q (begins_of starts plan (root s e) q)
 begins_by_test g starts plan n s e a h q st pl first up fit target = within (dec_le s q) (dec_le q (root s e)) target
   where

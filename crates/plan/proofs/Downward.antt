@@ -1,7 +1,7 @@
 -- What the downward pass leaves in the plan: each part's nodes say what stands above them, and their ranks. Assumes nothing.
 use mathlib.Core.Path.{◌≡◌, refl, sym, ap, subst, ◌∙◌}
 use mathlib.Core.Logic.{◌⊎◌, inl, inr, ⊎_elim}
-use mathlib.Core.Bool.{Bool, true, false, cond}
+use mathlib.Core.Bool.{Bool, false, cond}
 use mathlib.Core.List.{List}
 use Prim.Native.Nat.{ℕ, suc, ◌+◌, ◌-◌, ◌≤◌, ◌<◌}
 use native.Mathlib.Omega.{arith}
@@ -11,45 +11,23 @@ use Rattle.meaning.specs.Expr.{Expr, empty, event, choice, sequence, repeat, siz
 use Rattle.meaning.specs.Node.{Node, Stands, repeats_below}
 use Rattle.meaning.specs.Normal.{nullable}
 use Rattle.meaning.proofs.Expressions.Parts.{root-size}
-use Rattle.procedure.specs.Entry.{held}
+use Rattle.procedure.specs.Entry.{Nodes, held}
 use Rattle.procedure.specs.Listing.{TellsNulls}
 use Rattle.procedure.proofs.Empties.{null_of_part}
 use Rattle.procedure.proofs.Standing.{part_start}
-use Rattle.plan.specs.Link.{above_in, begins_in, rank_in, ranked_in, told_in}
+use Rattle.plan.specs.Link.{Link, Links, above_in, begins_in, rank_in, ranked_in, told_in, untold}
 use Rattle.plan.specs.Plan.{above_at, begins_at, rank_at, Told, Planned}
 use Rattle.plan.specs.Filling.{begins_right, down, link_with, rank_to, tell, visit}
 use Rattle.plan.proofs.Beginnings.{among}
 
--- ---- a link
-
-told_above : (a h : ℕ) → a < 1024 → h < 1024 → above_in (told_in a h) ≡ a
-unfolding above_in told_in
-told_above a h l m = omega arith
-
-told_begins : (a h : ℕ) → a < 1024 → h < 1024 → begins_in (told_in a h) ≡ h
-unfolding begins_in told_in
-told_begins a h l m = omega arith
-
-ranked_above : (x k : ℕ) → above_in (ranked_in x k) ≡ above_in x
-unfolding above_in ranked_in
-ranked_above x k = omega arith
-
-ranked_begins : (x k : ℕ) → begins_in (ranked_in x k) ≡ begins_in x
-unfolding begins_in ranked_in
-ranked_begins x k = omega arith
-
-ranked_rank : (x k : ℕ) → k < 64 → rank_in (ranked_in x k) ≡ k
-unfolding rank_in ranked_in
-ranked_rank x k h = omega arith
-
 -- ---- what stays as it was
 
 -- only links at nodes from lo on and before hi change
-pub record Moves (lo hi : ℕ) (p d : List ℕ) : Type 0 where
-  pub kept : (j : ℕ) → (j < lo) ⊎ (hi ≤ j) → get_or d j 0 ≡ get_or p j 0
+pub record Moves (lo hi : ℕ) (p d : Links) : Type 0 where
+  pub kept : (j : ℕ) → (j < lo) ⊎ (hi ≤ j) → get_or d j untold ≡ get_or p j untold
   pub long : length d ≡ length p
 
-moves_then : {lo hi a b c d : ℕ} {p q r : List ℕ} → lo ≤ a → b ≤ hi → lo ≤ c → d ≤ hi → Moves a b p q → Moves c d q r → Moves lo hi p r
+moves_then : {lo hi a b c d : ℕ} {p q r : Links} → lo ≤ a → b ≤ hi → lo ≤ c → d ≤ hi → Moves a b p q → Moves c d q r → Moves lo hi p r
 moves_then la bh lc dh v w = record {
   kept = λ j o.
       w.kept j (⊎_elim (λ l. inl (omega arith)) (λ l. inr (omega arith)) o)
@@ -57,27 +35,24 @@ moves_then la bh lc dh v w = record {
   long = w.long ∙ v.long;
 }
 
-moves_set : (lo hi c v : ℕ) (p : List ℕ) → lo ≤ c → c < hi → Moves lo hi p (set p c v)
+moves_set : (lo hi c : ℕ) (v : Link) (p : Links) → lo ≤ c → c < hi → Moves lo hi p (set p c v)
 moves_set lo hi c v p lc ch = record {
-  kept = λ j o. get_or-set_other p c j _ 0 (λ e. ⊎_elim (λ l. omega arith) (λ l. omega arith) o);
+  kept = λ j o. get_or-set_other p c j _ untold (λ e. ⊎_elim (λ l. omega arith) (λ l. omega arith) o);
   long = length-set p c v;
 }
 
-pub told_there : (c a h : ℕ) (p : List ℕ) → c < length p → a < 1024 → h < 1024 → Told (tell p c a h) c a h
-told_there c a h p cl la lh =
-    let e = get_or-set_same p c (told_in a h) 0 cl in
-    (ap above_in e ∙ told_above a h la lh, ap begins_in e ∙ told_begins a h la lh)
+pub told_there : (c a h : ℕ) (p : Links) → c < length p → Told (tell p c a h) c a h
+told_there c a h p cl = let e = get_or-set_same p c (told_in a h) untold cl in (ap above_in e, ap begins_in e)
 
-told_kept : (p d : List ℕ) (i a h : ℕ) → get_or d i 0 ≡ get_or p i 0 → Told p i a h → Told d i a h
+told_kept : (p d : Links) (i a h : ℕ) → get_or d i untold ≡ get_or p i untold → Told p i a h → Told d i a h
 told_kept p d i a h e w = (ap above_in e ∙ w.0, ap begins_in e ∙ w.1)
 
-told_ranked : (p : List ℕ) (i k a h : ℕ) → i < length p → Told p i a h → Told (rank_to p i k) i a h
+told_ranked : (p : Links) (i k a h : ℕ) → i < length p → Told p i a h → Told (rank_to p i k) i a h
 told_ranked p i k a h l w =
-    let e = get_or-set_same p i (ranked_in (get_or p i 0) k) 0 l in
-    (ap above_in e ∙ ranked_above (get_or p i 0) k ∙ w.0, ap begins_in e ∙ ranked_begins (get_or p i 0) k ∙ w.1)
+    let e = get_or-set_same p i (ranked_in (get_or p i untold) k) untold l in (ap above_in e ∙ w.0, ap begins_in e ∙ w.1)
 
 -- what is planned of a part stands in the links of its nodes
-planned_kept : (p d : List ℕ) (s : ℕ) (e : Expr) (a h : ℕ) → ((j : ℕ) → s ≤ j → j < s + size e → get_or d j 0 ≡ get_or p j 0)
+planned_kept : (p d : Links) (s : ℕ) (e : Expr) (a h : ℕ) → ((j : ℕ) → s ≤ j → j < s + size e → get_or d j untold ≡ get_or p j untold)
     → Planned p s e a h → Planned d s e a h
 planned_kept p d s empty a h f w = told_kept p d s a h (f s (omega arith) (omega arith)) w
 planned_kept p d s (event c) a h f w = told_kept p d s a h (f s (omega arith) (omega arith)) w
@@ -96,21 +71,16 @@ planned_kept p d s (repeat b lower upper) a h f w = (
   planned_kept p d s b _ h (λ j u v. f j u (omega arith)) w.1,
 )
 
-small_right : (b : Bool) (h y : ℕ) → h < 1024 → y < 1024 → cond b h y < 1024
-small_right true h y l m = l
-small_right false h y l m = m
-
 -- ---- the downward pass over a part
 
-module _ (nodes : List ℕ) (nulls : List Bool) (n : ℕ) (most : n ≤ 512) (few : (i : ℕ) → i < n → repeats_below (held nodes) i < 64)
-    (known : TellsNulls (held nodes) nulls n) where
+module _ (nodes : Nodes) (nulls : List Bool) (n : ℕ) (most : n ≤ 512) (known : TellsNulls (held nodes) nulls n) where
   -- the links from s on and before t have the ranks of their nodes
-  abbrev Ranks : List ℕ → ℕ → ℕ → Type 0
+  abbrev Ranks : Links → ℕ → ℕ → Type 0
   Ranks p s t = (j : ℕ) → s ≤ j → j < t → rank_at p j ≡ repeats_below (held nodes) j
 
   -- the pass over the part leaves the plan `after`, in which the part's nodes are told, and goes on below the part
-  pub record DownTo (p : List ℕ) (s : ℕ) (e : Expr) (a h : ℕ) : Type 0 where
-    pub after : List ℕ
+  pub record DownTo (p : Links) (s : ℕ) (e : Expr) (a h : ℕ) : Type 0 where
+    pub after : Links
     pub rest : down nodes nulls p (s + size e) ≡ down nodes nulls after s
     pub planned : Planned after s e a h
     pub ranks : Ranks after s (s + size e)
@@ -119,19 +89,19 @@ module _ (nodes : List ℕ) (nulls : List Bool) (n : ℕ) (most : n ≤ 512) (fe
   abbrev rank : ℕ → ℕ
   rank i = repeats_below (held nodes) i
 
-  rank_there : (p d : List ℕ) (i : ℕ) → i < n → length p ≡ 512 → get_or d i 0 ≡ get_or (rank_to p i (rank i)) i 0 → rank_at d i ≡ rank i
+  rank_there : (p d : Links) (i : ℕ) → i < n → length p ≡ 512 → get_or d i untold ≡ get_or (rank_to p i (rank i)) i untold → rank_at d i ≡ rank i
   rank_there p d i l long e =
-      ap rank_in (e ∙ get_or-set_same p i (ranked_in (get_or p i 0) (rank i)) 0 (omega arith)) ∙ ranked_rank (get_or p i 0) (rank i) (few i l)
+      ap rank_in (e ∙ get_or-set_same p i (ranked_in (get_or p i untold) (rank i)) untold (omega arith))
 
-  visit_as : (p : List ℕ) (i : ℕ) (m : Node) → held nodes i ≡ m → visit nodes nulls p i ≡ link_with m nulls (rank_to p i (rank i)) i
+  visit_as : (p : Links) (i : ℕ) (m : Node) → held nodes i ≡ m → visit nodes nulls p i ≡ link_with m nulls (rank_to p i (rank i)) i
   visit_as p i m e = ap (λ (x : Node). link_with x nulls (rank_to p i (rank i)) i) e
 
-  down_next : (p d : List ℕ) (s m : ℕ) → m ≡ suc s → visit nodes nulls p s ≡ d → down nodes nulls p m ≡ down nodes nulls d s
-  down_next p d s m e f = ap (down nodes nulls p) e ∙ ap (λ (x : List ℕ). down nodes nulls x s) f
+  down_next : (p d : Links) (s m : ℕ) → m ≡ suc s → visit nodes nulls p s ≡ d → down nodes nulls p m ≡ down nodes nulls d s
+  down_next p d s m e f = ap (down nodes nulls p) e ∙ ap (λ (x : Links). down nodes nulls x s) f
 
   -- a node without children only gets its rank
-  down_leaf : (s : ℕ) (a h : ℕ) (p : List ℕ) → s < n → length p ≡ 512 → Told p s a h → visit nodes nulls p s ≡ rank_to p s (rank s)
-      → (d : List ℕ) × (down nodes nulls p (s + 1) ≡ down nodes nulls d s) × Told d s a h × Ranks d s (s + 1) × Moves s (s + 1) p d
+  down_leaf : (s : ℕ) (a h : ℕ) (p : Links) → s < n → length p ≡ 512 → Told p s a h → visit nodes nulls p s ≡ rank_to p s (rank s)
+      → (d : Links) × (down nodes nulls p (s + 1) ≡ down nodes nulls d s) × Told d s a h × Ranks d s (s + 1) × Moves s (s + 1) p d
   down_leaf s a h p fit long told same =
       let d = rank_to p s (rank s) in (
         d,
@@ -142,20 +112,19 @@ module _ (nodes : List ℕ) (nulls : List Bool) (n : ℕ) (most : n ≤ 512) (fe
       )
 
   -- two children are told, the right is passed and then the left
-  down_pair : (s : ℕ) (l r : Expr) (a h al hl ar hr : ℕ) (p : List ℕ) → s + size l + size r < n → length p ≡ 512
+  down_pair : (s : ℕ) (l r : Expr) (a h al hl ar hr : ℕ) (p : Links) → s + size l + size r < n → length p ≡ 512
       → Told p (s + size l + size r) a h
       → visit nodes nulls p (s + size l + size r) ≡ tell (tell (rank_to p (s + size l + size r) (rank (s + size l + size r))) (root s l) al hl) (root (s + size l) r) ar hr
-      → al < 1024 → hl < 1024 → ar < 1024 → hr < 1024
-      → ((d : List ℕ) → length d ≡ 512 → Told d (root (s + size l) r) ar hr → DownTo d (s + size l) r ar hr)
-      → ((d : List ℕ) → length d ≡ 512 → Told d (root s l) al hl → DownTo d s l al hl)
-      → (d : List ℕ)
+      → ((d : Links) → length d ≡ 512 → Told d (root (s + size l) r) ar hr → DownTo d (s + size l) r ar hr)
+      → ((d : Links) → length d ≡ 512 → Told d (root s l) al hl → DownTo d s l al hl)
+      → (d : Links)
       × (down nodes nulls p (s + (size l + size r + 1)) ≡ down nodes nulls d s)
       × Told d (s + size l + size r) a h
       × Planned d s l al hl
       × Planned d (s + size l) r ar hr
       × Ranks d s (s + (size l + size r + 1))
       × Moves s (s + (size l + size r + 1)) p d
-  down_pair s l r a h al hl ar hr p fit long told same sal shl sar shr right left =
+  down_pair s l r a h al hl ar hr p fit long told same right left =
       let i = s + size l + size r in
       let zl = root-size s l in
       let zr = root-size (s + size l) r in
@@ -171,10 +140,10 @@ module _ (nodes : List ℕ) (nulls : List Bool) (n : ℕ) (most : n ≤ 512) (fe
       let long0 : length p0 ≡ 512 = m0.long ∙ long in
       let long1 : length p1 ≡ 512 = m1.long ∙ long0 in
       let long2 : length p2 ≡ 512 = m2.long ∙ long1 in
-      let v = right p2 long2 (told_there (root (s + size l) r) ar hr p1 (omega arith) sar shr) in
+      let v = right p2 long2 (told_there (root (s + size l) r) ar hr p1 (omega arith)) in
       let told_left : Told p2 (root s l) al hl =
-      told_kept p1 p2 (root s l) al hl (get_or-set_other p1 (root (s + size l) r) (root s l) _ 0 (omega arith))
-      (told_there (root s l) al hl p0 (omega arith) sal shl) in
+      told_kept p1 p2 (root s l) al hl (get_or-set_other p1 (root (s + size l) r) (root s l) _ untold (omega arith))
+      (told_there (root s l) al hl p0 (omega arith)) in
       let w =
       left v.after (v.moves.long ∙ long2)
       (told_kept p2 v.after (root s l) al hl (v.moves.kept (root s l) (inl (omega arith))) told_left) in
@@ -182,10 +151,10 @@ module _ (nodes : List ℕ) (nulls : List Bool) (n : ℕ) (most : n ≤ 512) (fe
       moves_then {c = s} {d = i} (omega arith) (omega arith) (omega arith) (omega arith) m0
       (moves_then {c = s} {d = i} (omega arith) (omega arith) (omega arith) (omega arith) m12
       (moves_then {lo = s} {hi = i} (omega arith) (omega arith) (omega arith) (omega arith) v.moves w.moves)) in
-      let here : get_or w.after i 0 ≡ get_or p0 i 0 = w.moves.kept i (inr (omega arith)) ∙ v.moves.kept i (inr (omega arith)) ∙ m12.kept i (inr (omega arith)) in
+      let here : get_or w.after i untold ≡ get_or p0 i untold = w.moves.kept i (inr (omega arith)) ∙ v.moves.kept i (inr (omega arith)) ∙ m12.kept i (inr (omega arith)) in
       let next : s + (size l + size r + 1) ≡ suc i = omega arith in (
         w.after,
-        ap (down nodes nulls p) next ∙ ap (λ (d : List ℕ). down nodes nulls d i) same ∙ v.rest ∙ w.rest,
+        ap (down nodes nulls p) next ∙ ap (λ (d : Links). down nodes nulls d i) same ∙ v.rest ∙ w.rest,
         told_kept p0 w.after i a h here (told_ranked p i (rank i) a h (omega arith) told),
         w.planned,
         planned_kept v.after w.after (s + size l) r ar hr (λ j x y. w.moves.kept j (inr x)) v.planned,
@@ -197,15 +166,15 @@ module _ (nodes : List ℕ) (nulls : List Bool) (n : ℕ) (most : n ≤ 512) (fe
       )
 
   -- the downward pass tells a part's nodes what stands above them
-  pub down_part : (s : ℕ) (e : Expr) (a h : ℕ) (p : List ℕ) → Stands (held nodes) s e → s + size e ≤ n → a < 1024 → h < 1024
+  pub down_part : (s : ℕ) (e : Expr) (a h : ℕ) (p : Links) → Stands (held nodes) s e → s + size e ≤ n
       → length p ≡ 512 → Told p (root s e) a h → DownTo p s e a h
-  down_part s empty a h p st fit sa sh long told =
+  down_part s empty a h p st fit long told =
       let w = down_leaf s a h p (omega arith) long told (visit_as p s _ st) in
       record { after = w.0; rest = w.1; planned = w.2; ranks = w.3; moves = w.4 }
-  down_part s (event c) a h p st fit sa sh long told =
+  down_part s (event c) a h p st fit long told =
       let w = down_leaf s a h p (omega arith) long told (visit_as p s _ st) in
       record { after = w.0; rest = w.1; planned = w.2; ranks = w.3; moves = w.4 }
-  down_part s (choice l r) a h p st fit sa sh long told =
+  down_part s (choice l r) a h p st fit long told =
       let i = s + size l + size r in
       let z = root-size (s + size l) r in
       let before : i - 1 ≡ root (s + size l) r = omega arith in
@@ -217,11 +186,11 @@ module _ (nodes : List ℕ) (nulls : List Bool) (n : ℕ) (most : n ≤ 512) (fe
       ∙ ap (λ (y : ℕ). tell (tell q (root s l) y (begins_at q i)) (root (s + size l) r) y (begins_at q i)) here.0
       ∙ ap (λ (y : ℕ). tell (tell q (root s l) a y) (root (s + size l) r) a y) here.1 in
       let w =
-      down_pair s l r a h a h a h p (omega arith) long told same sa sh sa sh
-      (λ d rd td. down_part (s + size l) r a h d st.1 (omega arith) sa sh rd td)
-      (λ d rd td. down_part s l a h d st.0 (omega arith) sa sh rd td) in
+      down_pair s l r a h a h a h p (omega arith) long told same
+      (λ d rd td. down_part (s + size l) r a h d st.1 (omega arith) rd td)
+      (λ d rd td. down_part s l a h d st.0 (omega arith) rd td) in
       record { after = w.0; rest = w.1; planned = (w.2, w.3, w.4); ranks = w.5; moves = w.6 }
-  down_part s (sequence l r) a h p st fit sa sh long told =
+  down_part s (sequence l r) a h p st fit long told =
       let i = s + size l + size r in
       let z = root-size (s + size l) r in
       let zl = root-size s l in
@@ -236,13 +205,12 @@ module _ (nodes : List ℕ) (nulls : List Bool) (n : ℕ) (most : n ≤ 512) (fe
       ∙ ap (λ (x : ℕ). tell (tell q (root s l) i (begins_at q i)) y x (begins_right (get_or nulls (root s l) false) (begins_at q i) y)) here.0
       ∙ ap (λ (x : ℕ). tell (tell q (root s l) i x) y a (begins_right (get_or nulls (root s l) false) x y)) here.1
       ∙ ap (λ (x : Bool). tell (tell q (root s l) i h) y a (cond x h y)) empties in
-      let sr = small_right (nullable l) h y sh (omega arith) in
       let w =
-      down_pair s l r a h i h a (cond (nullable l) h y) p (omega arith) long told same (omega arith) sh sa sr
-      (λ d rd td. down_part (s + size l) r a (cond (nullable l) h y) d st.1 (omega arith) sa sr rd td)
-      (λ d rd td. down_part s l i h d st.0 (omega arith) (omega arith) sh rd td) in
+      down_pair s l r a h i h a (cond (nullable l) h y) p (omega arith) long told same
+      (λ d rd td. down_part (s + size l) r a (cond (nullable l) h y) d st.1 (omega arith) rd td)
+      (λ d rd td. down_part s l i h d st.0 (omega arith) rd td) in
       record { after = w.0; rest = w.1; planned = (w.2, w.3, w.4); ranks = w.5; moves = w.6 }
-  down_part s (repeat b lower upper) a h p st fit sa sh long told =
+  down_part s (repeat b lower upper) a h p st fit long told =
       let i = s + size b in
       let z = root-size s b in
       let zs = part_start s b in
@@ -256,8 +224,8 @@ module _ (nodes : List ℕ) (nulls : List Bool) (n : ℕ) (most : n ≤ 512) (fe
       let m : Moves s i q d = moves_set s i (root s b) _ q (omega arith) (omega arith) in
       let longq : length q ≡ 512 = mq.long ∙ long in
       let w =
-      down_part s b i h d st.0 (omega arith) (omega arith) sh (m.long ∙ longq) (told_there (root s b) i h q (omega arith) (omega arith) sh) in
-      let kept : get_or w.after i 0 ≡ get_or q i 0 = w.moves.kept i (inr (omega arith)) ∙ m.kept i (inr (omega arith)) in
+      down_part s b i h d st.0 (omega arith) (m.long ∙ longq) (told_there (root s b) i h q (omega arith)) in
+      let kept : get_or w.after i untold ≡ get_or q i untold = w.moves.kept i (inr (omega arith)) ∙ m.kept i (inr (omega arith)) in
       record {
         after = w.after;
         rest = down_next p d i (s + (size b + 1)) (omega arith) same ∙ w.rest;

@@ -1,5 +1,4 @@
 -- The laws that belong to no one function.
-pub mod Tests
 pub mod Beginnings
 mod Downward
 pub mod Whole

@@ -2,3 +2,4 @@
 pub mod Filling
 pub mod Link
 pub mod Plan
+pub mod Rising

@@ -1,22 +1,34 @@
--- The numbers in a link of the plan. A model of our code, and no promise.
-use Rattle.std.specs.Prelude.{ℕ, ◌+◌, ◌*◌, ◌/◌, ◌%◌}
+-- A link of the plan. A model of our code, and no promise.
+use Rattle.std.specs.Prelude.{List, ℕ}
+use Rattle.plan.specs.declared.link.Link as code
+
+-- a link as the code holds it
+abbrev pub Link : Type 0
+Link = code.Link
+
+abbrev pub Links : Type 0
+Links = List Link
+
+-- the link that nothing was told
+abbrev pub untold : Link
+untold = record { above = 0; begins = 0; rank = 0 }
 
 -- the next node above that matters
-unfoldable pub above_in : ℕ → ℕ
-above_in x = x % 1024
+abbrev pub above_in : Link → ℕ
+above_in x = x.above
 
 -- the highest node whose part can begin with this one
-unfoldable pub begins_in : ℕ → ℕ
-begins_in x = x / 1024 % 1024
+abbrev pub begins_in : Link → ℕ
+begins_in x = x.begins
 
 -- how many repeats stand below the node
-unfoldable pub rank_in : ℕ → ℕ
-rank_in x = x / 1048576 % 64
+abbrev pub rank_in : Link → ℕ
+rank_in x = x.rank
 
 -- the link that says what stands above, and no rank yet
-unfoldable pub told_in : ℕ → ℕ → ℕ
-told_in above begins = above + 1024 * begins
+abbrev pub told_in : ℕ → ℕ → Link
+told_in above begins = record { above = above; begins = begins; rank = 0 }
 
 -- the link with this rank
-unfoldable pub ranked_in : ℕ → ℕ → ℕ
-ranked_in x rank = x % 1048576 + 1048576 * rank
+abbrev pub ranked_in : Link → ℕ → Link
+ranked_in x rank = record { above = x.above; begins = x.begins; rank = rank }

@@ -1,110 +1,93 @@
 // The plan of a procedure, filled once a call: downward from the root, each node tells its children what stands above them.
-ghost use Rattle.std.specs.Prelude.{◌≡◌, List, ℕ, ◌≤◌, ◌<◌, length};
+ghost use Rattle.std.specs.Prelude.{◌≡◌, ◌≤◌, ◌<◌};
 ghost use Rattle.meaning.specs.Expr.{Expr};
 ghost use Rattle.meaning.specs.Node.{is_repeat, repeats_below};
-ghost use Rattle.procedure.specs.Entry.{held, unpacked};
-ghost use Rattle.procedure.specs.Listing.{Listing, OneOf, Tables};
-ghost use Rattle.plan.specs.Plan.{Plans};
-ghost use Rattle.plan.specs.Filling.{begins_right, down, link_with, rank_to, tell};
+ghost use Rattle.procedure.specs.Entry.{held, record_of};
+ghost use Rattle.procedure.specs.Listing.{Listing, OneOf};
+ghost use Rattle.procedure.specs.Opening.{IsOf};
+ghost use Rattle.plan.specs.Plan.{PlanOf};
+ghost use Rattle.plan.specs.Filling.{down, link_with, tell};
 
-use crate::link;
-use procedure::entry;
+use crate::Plan;
+use crate::link::Link;
+use procedure::node::Node;
+use procedure::{MOST_NODES, Procedure};
 
 // What stands above the root.
-const TOP: usize = 512;
+const TOP: u16 = 512;
 
 // 1 for a repeat, else 0.
-fn is_repeat(node: u64) -> usize
-    ensures value { result ≡ is_repeat (unpacked node) }
+fn is_repeat(node: Node) -> usize
+    ensures value { result ≡ is_repeat (record_of node) }
     ensures upper_bound { result < 2 }
 {
-    if entry::kind_of(node) == entry::REPEAT {
-        return 1;
-    }
-    0
-}
-
-// Node i gets its rank.
-fn rank_at(plan: &mut [u64; 512], i: usize, rank: usize)
-    requires i_bound { i < 512 }
-    requires rank_bound { rank < 64 }
-    ensures { plan.new ≡ rank_to plan.old i rank }
-{
-    let made = link::ranked(plan[i], rank);
-    plan[i] = made;
+    usize::from(matches!(node, Node::Repeat { .. }))
 }
 
 // Node c is told what stands above it.
-fn tell_at(plan: &mut [u64; 512], c: usize, above: usize, begins: usize)
-    requires c_bound { c < 512 }
-    requires above_bound { above < 1024 }
-    requires begins_bound { begins < 1024 }
-    ensures { plan.new ≡ tell plan.old c above begins }
+fn tell(links: &mut [Link; MOST_NODES], c: usize, above: u16, begins: u16)
+    requires { c < 512 }
+    ensures { links.new ≡ tell links.old c above begins }
 {
-    let made = link::told(above, begins);
-    plan[c] = made;
-}
-
-// What the right part of a sequence begins: as much as the sequence, where the left part may be empty; else itself.
-fn begins_right(null: bool, begins: usize, right: usize) -> usize
-    requires begins_bound { begins < 1024 }
-    requires right_bound { right < 1024 }
-    ensures value { result ≡ begins_right null begins right }
-    ensures upper_bound { result < 1024 }
-{
-    if null { begins } else { right }
+    links[c] = Link {
+        above,
+        begins,
+        rank: 0,
+    };
 }
 
 // Node i tells its children, if it has any.
-fn link_at(nodes: &[u64; 512], nulls: &[bool; 512], plan: &mut [u64; 512], i: usize)
-    requires { OneOf nodes.now i }
-    ensures { plan.new ≡ link_with (held nodes.now i) nulls.now plan.old i }
+fn link_at(procedure: &Procedure, links: &mut [Link; MOST_NODES], i: usize)
+    requires { OneOf procedure.now.nodes i }
+    ensures { links.new ≡ link_with (held procedure.now.nodes i) procedure.now.nulls links.old i }
 {
-    let node = nodes[i];
-    let kind = entry::kind_of(node);
-    if kind < entry::CHOICE {
-        return;
-    }
-    let above = link::above_of(plan[i]);
-    let begins = link::begins_of(plan[i]);
-    let last = i - 1;
-    if kind == entry::REPEAT {
-        tell_at(plan, last, i, begins);
-        return;
-    }
-    let left = entry::left_of(node);
-    if kind == entry::SEQUENCE {
-        let right = begins_right(nulls[left], begins, last);
-        tell_at(plan, left, i, begins);
-        tell_at(plan, last, above, right);
-        return;
-    }
-    tell_at(plan, left, above, begins);
-    tell_at(plan, last, above, begins);
-}
-
-// Downward from node n: each node gets its rank and tells its children. r repeats are among them.
-fn fill_down(nodes: &[u64; 512], nulls: &[bool; 512], plan: &mut [u64; 512], n: usize, r: usize)
-    requires listing { (e : Expr) × Listing nodes.now n e }
-    requires r_value { (r ≡ repeats_below (held nodes.now) n) × (r ≤ 32) }
-    ensures { plan.new ≡ down nodes.now nulls.now plan.old n }
-{
-    let mut i = n;
-    let mut k = r;
-    while 0 < i {
-        i -= 1;
-        k -= is_repeat(nodes[i]);
-        rank_at(plan, i, k);
-        link_at(nodes, nulls, plan, i);
+    let Link { above, begins, .. } = links[i];
+    match procedure.nodes[i] {
+        Node::Empty | Node::Event(_) => {}
+        Node::Choice { left, .. } => {
+            tell(links, usize::from(left), above, begins);
+            tell(links, i - 1, above, begins);
+        }
+        Node::Sequence { left, .. } => {
+            let left = usize::from(left);
+            // The right part begins as much as the sequence, where the left part may be empty; else itself.
+            let right = if procedure.nulls[left] {
+                begins
+            } else {
+                (i - 1) as u16
+            };
+            tell(links, left, i as u16, begins);
+            tell(links, i - 1, above, right);
+        }
+        Node::Repeat { .. } => tell(links, i - 1, i as u16, begins),
     }
 }
 
-// The plan of the n nodes, of which r are repeats.
-pub fn fill_plan(nodes: &[u64; 512], nulls: &[bool; 512], plan: &mut [u64; 512], n: usize, r: usize)
-    requires plan_len { length plan.old ≡ 512 }
-    requires by_index { (starts : List ℕ) × (repeats : List ℕ) × (e : Expr) × Tables nodes.now starts nulls.now repeats n r e }
-    ensures { (starts : List ℕ) (repeats : List ℕ) (e : Expr) → Tables nodes.now starts nulls.now repeats n r e → Plans nodes.now starts nulls.now plan.new n e }
+// Downward from the last node: each node gets its rank and tells its children.
+fn fill_down(procedure: &Procedure, links: &mut [Link; MOST_NODES])
+    requires listing { (e : Expr) × Listing procedure.now.nodes procedure.now.count e }
+    requires counted { procedure.now.repeat_count ≡ repeats_below (held procedure.now.nodes) procedure.now.count }
+    requires few { procedure.now.repeat_count ≤ 32 }
+    ensures { links.new ≡ down procedure.now.nodes procedure.now.nulls links.old procedure.now.count }
 {
-    tell_at(plan, n - 1, TOP, n - 1);
-    fill_down(nodes, nulls, plan, n, r);
+    let mut rank = procedure.repeat_count;
+    for i in (0..procedure.count).rev() {
+        rank -= is_repeat(procedure.nodes[i]);
+        links[i].rank = rank as u16;
+        link_at(procedure, links, i);
+    }
+}
+
+impl<'a> Plan<'a> {
+    // The plan of the procedure, by the links, which are filled.
+    pub fn fill(procedure: &'a Procedure, links: &'a mut [Link; MOST_NODES]) -> Plan<'a>
+        requires { (e : Expr) × IsOf procedure.now e }
+        ensures same { result.procedure.now ≡ procedure.now }
+        ensures plans { (e : Expr) → IsOf procedure.now e → PlanOf result e }
+    {
+        let root = procedure.count - 1;
+        tell(links, root, TOP, root as u16);
+        fill_down(procedure, links);
+        Plan { procedure, links }
+    }
 }

@@ -1,6 +1,6 @@
 -- Which parts have the empty word: of each kind of node from its children, and the list of them, filled one by one. Assumes nothing.
 use mathlib.Core.Path.{◌≡◌, refl, sym, ap, ap₂, subst, ◌∙◌}
-use mathlib.Core.Bool.{Bool, false, ◌||◌, ◌&&◌}
+use mathlib.Core.Bool.{Bool, true, false, ◌||◌, ◌&&◌}
 use mathlib.Core.List.{List}
 use Prim.Native.Nat.{ℕ, zero, suc, ◌+◌, ◌-◌, ◌≤◌, ◌<◌}
 use native.Mathlib.Omega.{arith}
@@ -10,40 +10,45 @@ use lib.Dec.{eqb}
 use lib.ListN.{length, get_or, set}
 use lib.Seq.{get_or-set_same, get_or-set_other}
 use Rattle.meaning.specs.Expr.{Expr, root, size}
-use Rattle.meaning.specs.Node.{Node, Stands}
+use Rattle.meaning.specs.Node.{InOrder, Node, Stands, node}
 use Rattle.meaning.specs.Normal.{nullable, is_zero}
 use Rattle.procedure.specs.Entry.{kind_of, left_of, lower_of}
 use Rattle.procedure.specs.Listing.{NullAt, TellsNulls}
-use Rattle.procedure.proofs.Standing.{at_leaf, at_choice, at_sequence, at_repeat}
+use Rattle.procedure.proofs.Standing.{at_leaf, at_choice, at_sequence, at_repeat, last_order}
 
-pub zero_test : (n : ℕ) → eqb n 0 ≡ is_zero n
+zero_test : (n : ℕ) → eqb n 0 ≡ is_zero n
 zero_test zero = eq-eqb 0 0 refl
 zero_test (suc n) = ne_eqb (suc n) 0 (λ e. omega arith)
 
-module _ (g : ℕ → Node) (nulls : List Bool) (i kind : ℕ) (told : kind ≡ kind_of (g i)) where
-  pub null_leaf : kind < 2 → NullAt g i (eqb kind 0)
+module _ (g : ℕ → Node) (i : ℕ) where
+  pub null_empty : g i ≡ node 0 0 0 0 0 → NullAt g i true
   unfolding NullAt
-  null_leaf k = λ s. at_leaf g s i kind told (λ e. eqb kind 0 ≡ nullable e) k (λ h z. eq-eqb kind 0 z) (λ c h z d. ne_eqb kind 0 (λ e. omega arith))
+  null_empty e = λ s. at_leaf g s i 0 (sym (ap kind_of e)) (λ p. true ≡ nullable p) (omega arith) (λ h z. refl) (λ c h z d. absurd (omega arith))
 
-  module _ (known : TellsNulls g nulls i) (some : 1 ≤ i) where
-    pub null_repeat : (lower : ℕ) → lower ≡ lower_of (g i) → kind ≡ 4 → NullAt g i (eqb lower 0 || get_or nulls (i - 1) false)
-    unfolding TellsNulls NullAt
-    null_repeat lower f k = λ s. at_repeat g s i kind told (λ e. (eqb lower 0 || get_or nulls (i - 1) false) ≡ nullable e) k
-        (λ b p h q. ap₂ ◌||◌ (zero_test lower ∙ ap is_zero f) (known (i - 1) (omega arith) s b p h))
+  pub null_event : (c : ℕ) → g i ≡ node 1 c 0 0 0 → NullAt g i false
+  unfolding NullAt
+  null_event c e = λ s. at_leaf g s i 1 (sym (ap kind_of e)) (λ p. false ≡ nullable p) (omega arith) (λ h z. absurd (omega arith)) (λ d h z f. refl)
 
-    pub null_choice : (left : ℕ) → left ≡ left_of (g i) → kind ≡ 2 → NullAt g i (get_or nulls left false || get_or nulls (i - 1) false)
+  -- of a node with children, from what is known of their parts
+  module _ (nulls : List Bool) (known : TellsNulls g nulls i) (o : InOrder g i) (null : Bool) where
+    pub null_choice : (left right : ℕ) → g i ≡ node 2 0 left right 0 → null ≡ (get_or nulls left false || get_or nulls (i - 1) false) → NullAt g i null
     unfolding TellsNulls NullAt
-    null_choice left f k = λ s. at_choice g s i kind told (λ e. (get_or nulls left false || get_or nulls (i - 1) false) ≡ nullable e) left f k
-        (λ a b p. ap₂ ◌||◌ (known left (omega (arith, p.next, p.here)) s a p.first p.first_at)
-        (known (i - 1) (omega arith) (s + size a) b p.second p.second_at))
+    null_choice left right e h = λ s. at_choice g s i 2 (sym (ap kind_of e)) (λ p. null ≡ nullable p) left (sym (ap left_of e)) refl
+        (λ a b p. let some = (last_order g i 2 (sym (ap kind_of e)) (omega arith) o).1 in
+        h ∙ ap₂ ◌||◌ (known left (omega (arith, p.next, p.here)) s a p.first p.first_at) (known (i - 1) (omega arith) (s + size a) b p.second p.second_at))
 
-    pub null_sequence : (left : ℕ) → left ≡ left_of (g i) → 2 ≤ kind → ¬ (kind ≡ 2) → ¬ (kind ≡ 4)
-        → NullAt g i (get_or nulls left false && get_or nulls (i - 1) false)
+    pub null_sequence : (left right : ℕ) → g i ≡ node 3 0 left right 0 → null ≡ (get_or nulls left false && get_or nulls (i - 1) false) → NullAt g i null
     unfolding TellsNulls NullAt
-    null_sequence left f k no_choice no_repeat = λ s.
-        at_sequence g s i kind told (λ e. (get_or nulls left false && get_or nulls (i - 1) false) ≡ nullable e) left f k no_choice no_repeat
-        (λ a b p. ap₂ ◌&&◌ (known left (omega (arith, p.next, p.here)) s a p.first p.first_at)
-        (known (i - 1) (omega arith) (s + size a) b p.second p.second_at))
+    null_sequence left right e h = λ s.
+        at_sequence g s i 3 (sym (ap kind_of e)) (λ p. null ≡ nullable p) left (sym (ap left_of e)) (omega arith) (λ z. omega arith) (λ z. omega arith)
+        (λ a b p. let some = (last_order g i 3 (sym (ap kind_of e)) (omega arith) o).1 in
+        h ∙ ap₂ ◌&&◌ (known left (omega (arith, p.next, p.here)) s a p.first p.first_at) (known (i - 1) (omega arith) (s + size a) b p.second p.second_at))
+
+    pub null_repeat : (body lower upper : ℕ) → g i ≡ node 4 0 body lower upper → null ≡ (eqb lower 0 || get_or nulls (i - 1) false) → NullAt g i null
+    unfolding TellsNulls NullAt
+    null_repeat body lower upper e h = λ s. at_repeat g s i 4 (sym (ap kind_of e)) (λ p. null ≡ nullable p) refl
+        (λ b p k q. let some = (last_order g i 4 (sym (ap kind_of e)) (omega arith) o).1 in
+        h ∙ ap₂ ◌||◌ (zero_test lower ∙ ap is_zero (sym (ap lower_of e))) (known (i - 1) (omega arith) s b p k))
 
 -- ---- the list of them
 

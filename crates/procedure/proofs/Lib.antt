@@ -3,10 +3,8 @@
 pub mod Counting
 pub mod Deciding
 pub mod Empties
-pub mod Entries
-pub mod Limits
-mod Lines
 pub mod Nodes
 mod Openings
 pub mod Orders
+mod Records
 pub mod Standing

@@ -1,15 +1,24 @@
--- Entries: a node as one number, its record's 8 bytes read little-endian. A model of our code, and no promise.
-use Rattle.std.specs.Prelude.{◌≡◌, List, ℕ, ◌+◌, ◌*◌, ◌/◌, ◌%◌, ◌≤◌, ◌<◌, get_or}
+-- Nodes as the code holds them, and the records of the table that they stand for. A model of our code, and no promise.
+use Rattle.std.specs.Prelude.{◌≡◌, List, ℕ, ◌≤◌, ◌<◌, get_or}
 use Rattle.meaning.specs.Node.{Node, UpperWritten, node}
 use Rattle.meaning.specs.File.{node_at}
+use Rattle.procedure.specs.declared.node.Node as code
+use Rattle.procedure.specs.declared.node.Node.TheVariants as entry
 
--- a node as one number
-abbrev pub packed : Node → ℕ
-packed (node kind code x y z) = kind + 256 * code + 65536 * x + 4294967296 * y + 281474976710656 * z
+-- a node as the code holds it
+abbrev pub Entry : Type 0
+Entry = code.Node
 
--- the node that an entry holds
-unfoldable pub unpacked : ℕ → Node
-unpacked x = node (x % 256) (x / 256 % 256) (x / 65536 % 65536) (x / 4294967296 % 65536) (x / 281474976710656)
+abbrev pub Nodes : Type 0
+Nodes = List Entry
+
+-- the record of a node
+abbrev pub record_of : Entry → Node
+record_of entry.Empty = node 0 0 0 0 0
+record_of (entry.Event c) = node 1 c 0 0 0
+record_of (entry.Choice left right) = node 2 0 left right 0
+record_of (entry.Sequence left right) = node 3 0 left right 0
+record_of (entry.Repeat body lower upper) = node 4 0 body lower upper
 
 -- what the table calls the numbers of a node
 abbrev pub kind_of : Node → ℕ
@@ -33,18 +42,14 @@ lower_of (node kind code x lower z) = lower
 abbrev pub upper_of : Node → ℕ
 upper_of (node kind code x y upper) = upper
 
--- the three fields are 0
-abbrev pub NoFields : Node → Type 0
-NoFields (node kind code x y z) = (x ≡ 0) × (y ≡ 0) × (z ≡ 0)
-
 -- the bounds of a repeat keep to the table
 abbrev pub BoundsWritten : ℕ → ℕ → Type 0
 BoundsWritten lower upper = (lower ≤ 4096) × UpperWritten upper × (lower ≤ upper)
 
--- the node that entry i of the array holds
-abbrev pub held : List ℕ → ℕ → Node
-held nodes i = unpacked (get_or nodes i 0)
+-- the record of node i of the array
+abbrev pub held : Nodes → ℕ → Node
+held nodes i = record_of (get_or nodes i entry.Empty)
 
--- the first n entries of the array hold the nodes of the file
-abbrev pub Tied : List ℕ → List ℕ → ℕ → Type 0
+-- the first n nodes of the array are those of the file
+abbrev pub Tied : List ℕ → Nodes → ℕ → Type 0
 Tied f nodes n = (i : ℕ) → i < n → held nodes i ≡ node_at f i

@@ -3,17 +3,17 @@ use Rattle.std.specs.Prelude.{◌≡◌, Bool, false, List, ℕ, ◌≤◌, ◌<
 use Rattle.meaning.specs.Expr.{Expr, root, size}
 use Rattle.meaning.specs.Node.{Node, InTable, Stands, repeats_below}
 use Rattle.meaning.specs.Normal.{nullable}
-use Rattle.procedure.specs.Entry.{held, kind_of}
+use Rattle.procedure.specs.Entry.{Nodes, held, kind_of}
 
 -- the first n entries are the nodes of the expression in postfix order, each as the table has it
-pub record Listing (nodes : List ℕ) (n : ℕ) (e : Expr) : Type 0 where
+pub record Listing (nodes : Nodes) (n : ℕ) (e : Expr) : Type 0 where
   pub stands : Stands (held nodes) 0 e
   pub sized : size e ≡ n
   pub few : n ≤ 512
   pub table : (i : ℕ) → i < n → InTable (held nodes i)
 
 -- i is one of the nodes of an expression that the entries list
-abbrev pub OneOf : List ℕ → ℕ → Type 0
+abbrev pub OneOf : Nodes → ℕ → Type 0
 OneOf nodes i = (n : ℕ) × (e : Expr) × Listing nodes n e × (i < n)
 
 -- a part spans the nodes s to i
@@ -44,7 +44,7 @@ pub record TellsRepeats (g : ℕ → Node) (list : List ℕ) (n r : ℕ) : Type 
   pub each : (k : ℕ) → k < r → RepeatAt g n k (get_or list k 0)
 
 -- all that reading a file hands out of its expression of n nodes, of which r are repeats, at most 32
-pub record Tables (nodes starts : List ℕ) (nulls : List Bool) (repeats : List ℕ) (n r : ℕ) (e : Expr) : Type 0 where
+pub record Tables (nodes : Nodes) (starts : List ℕ) (nulls : List Bool) (repeats : List ℕ) (n r : ℕ) (e : Expr) : Type 0 where
   pub listing : Listing nodes n e
   pub begun : TellsStarts (held nodes) starts n
   pub empties : TellsNulls (held nodes) nulls n

@@ -1,33 +1,39 @@
-// The node records of a file, as entries.
+// The test 4: the node records of a file, against the table.
 ghost use Rattle.std.specs.Prelude.{◌≡◌, ◌+◌, ◌≤◌, ◌<◌, length};
 ghost use Rattle.meaning.specs.File.{Measured, count, record_at};
-ghost use Rattle.procedure.specs.Entry.{Tied, packed};
+ghost use Rattle.procedure.specs.Records.{NodeOf, ReadsNodes};
 
-use crate::{entry, frame};
+use crate::node::{Node, node_of};
+use crate::{MOST_NODES, frame};
+use meaning::Refusal;
 
-// The record whose 8 bytes stand from `at` on.
-fn entry_at(file: &[u8], at: usize) -> u64
+// The node of the record whose 8 bytes stand from `at` on.
+fn node_at(file: &[u8], at: usize) -> Option<Node>
     requires { at + 7 < length file.now }
-    ensures { result ≡ packed (record_at file.now at) }
+    ensures { NodeOf (record_at file.now at) result }
 {
-    let low = numbers::byte_at(file, at)
-        + entry::CODE * numbers::byte_at(file, at + 1)
-        + entry::FIRST * numbers::two_at(file, at + 2);
-    low + entry::SECOND * numbers::two_at(file, at + 4)
-        + entry::THIRD * numbers::two_at(file, at + 6)
+    node_of(
+        file[at],
+        file[at + 1],
+        numbers::two_at(file, at + 2),
+        numbers::two_at(file, at + 4),
+        numbers::two_at(file, at + 6),
+    )
 }
 
-// The first n entries become those of the file's nodes.
-pub fn fill(file: &[u8], nodes: &mut [u64], n: usize)
-    requires n_in_bounds { n ≤ length nodes.old }
+// The first n nodes become those of the file; where a record breaks the table, the lowest is named.
+pub fn read_nodes(file: &[u8], nodes: &mut [Node; MOST_NODES], n: usize) -> Result<(), Refusal>
+    requires n_in_bounds { n ≤ 512 }
     requires measured { Measured file.now }
     requires n_value { n ≡ count file.now }
-    ensures { Tied file.now nodes.new n }
+    ensures { ReadsNodes file.now nodes.new n result }
 {
     let first = file.len() - frame::TRAILER - frame::RECORD * n;
-    let mut i = 0;
-    while i < n {
-        nodes[i] = entry_at(file, first + frame::RECORD * i);
-        i += 1;
+    for i in 0..n {
+        let Some(node) = node_at(file, first + frame::RECORD * i) else {
+            return Err(Refusal::Record(i));
+        };
+        nodes[i] = node;
     }
+    Ok(())
 }

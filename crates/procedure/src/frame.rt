@@ -3,18 +3,18 @@ ghost use Rattle.std.specs.Prelude.{◌≡◌, ◌≤◌, ◌<◌, length};
 ghost use Rattle.meaning.specs.File.{Lettered, Measured, Sized, count};
 ghost use Rattle.procedure.specs.Tests.{Decides};
 
+use crate::MOST_NODES;
+
 const LEAST_BYTES: usize = 20;
 
 const MOST_BYTES: usize = 8204;
 
-const MOST_NODES: usize = 512;
-
 const MOST_TEXT: usize = 4096;
 
 // The trailer's four letters, SEQP, as one number.
-const LETTERS: u64 = 0x5051_4553;
+const LETTERS: u32 = 0x5051_4553;
 
-const EDITION: u64 = 1;
+const EDITION: u16 = 1;
 
 // How many bytes the trailer has, and how far from the end of the file its numbers stand.
 pub const TRAILER: usize = 12;
@@ -32,13 +32,7 @@ pub const RECORD: usize = 8;
 pub fn sized(file: &[u8]) -> bool
     ensures { Decides (Sized file.now) result }
 {
-    if file.len() < LEAST_BYTES {
-        return false;
-    }
-    if MOST_BYTES < file.len() {
-        return false;
-    }
-    true
+    (LEAST_BYTES..=MOST_BYTES).contains(&file.len())
 }
 
 // Whether 2 does not apply.
@@ -46,13 +40,8 @@ pub fn lettered(file: &[u8]) -> bool
     requires { 20 ≤ length file.now }
     ensures { Decides (Lettered file.now) result }
 {
-    if numbers::four_at(file, file.len() - TRAILER) != LETTERS {
-        return false;
-    }
-    if numbers::two_at(file, file.len() - EDITION_FROM_END) != EDITION {
-        return false;
-    }
-    true
+    numbers::four_at(file, file.len() - TRAILER) == LETTERS
+        && numbers::two_at(file, file.len() - EDITION_FROM_END) == EDITION
 }
 
 // How many nodes the trailer says there are.
@@ -61,7 +50,7 @@ pub fn count_of(file: &[u8]) -> usize
     ensures value { result ≡ count file.now }
     ensures upper_bound { result < 65536 }
 {
-    numbers::two_at(file, file.len() - COUNT_FROM_END) as usize
+    usize::from(numbers::two_at(file, file.len() - COUNT_FROM_END))
 }
 
 // Whether 3 does not apply.
@@ -70,21 +59,9 @@ pub fn measured(file: &[u8]) -> bool
     ensures { Decides (Measured file.now) result }
 {
     let n = count_of(file);
-    if n < 1 {
-        return false;
-    }
-    if MOST_NODES < n {
-        return false;
-    }
     let span = TRAILER + RECORD * n;
-    if numbers::four_at(file, file.len() - DISTANCE_FROM_END) as usize != span {
-        return false;
-    }
-    if file.len() < span {
-        return false;
-    }
-    if MOST_TEXT < file.len() - span {
-        return false;
-    }
-    true
+    (1..=MOST_NODES).contains(&n)
+        && numbers::four_at(file, file.len() - DISTANCE_FROM_END) as usize == span
+        && span <= file.len()
+        && file.len() - span <= MOST_TEXT
 }

@@ -1,30 +1,24 @@
 // Whether a part has the empty word.
-ghost use Rattle.std.specs.Prelude.{◌≤◌, ◌<◌, length};
+ghost use Rattle.std.specs.Prelude.{◌<◌};
 ghost use Rattle.meaning.specs.Node.{InOrder};
 ghost use Rattle.procedure.specs.Entry.{held};
 ghost use Rattle.procedure.specs.Listing.{NullAt, TellsNulls};
 
-use crate::entry;
+use crate::MOST_NODES;
+use crate::node::Node;
 
 // Whether the part of node i has the empty word, from what is known of the parts below.
-pub fn null_at(nodes: &[u64; 512], nulls: &[bool], i: usize) -> bool
-    requires i_bound { (i < 512) × (i ≤ length nulls.now) }
+pub fn null_at(nodes: &[Node; MOST_NODES], nulls: &[bool; MOST_NODES], i: usize) -> bool
+    requires i_bound { i < 512 }
     requires in_order { InOrder (held nodes.now) i }
     requires tells_nulls { TellsNulls (held nodes.now) nulls.now i }
     ensures { NullAt (held nodes.now) i result }
 {
-    let entry = nodes[i];
-    let kind = entry::kind_of(entry);
-    if kind < entry::CHOICE {
-        return kind == entry::EMPTY;
+    match nodes[i] {
+        Node::Empty => true,
+        Node::Event(_) => false,
+        Node::Choice { left, .. } => nulls[usize::from(left)] || nulls[i - 1],
+        Node::Sequence { left, .. } => nulls[usize::from(left)] && nulls[i - 1],
+        Node::Repeat { lower, .. } => lower == 0 || nulls[i - 1],
     }
-    let last = nulls[i - 1];
-    if kind == entry::REPEAT {
-        return (entry::lower_of(entry) == 0) | last;
-    }
-    let left = nulls[entry::left_of(entry)];
-    if kind == entry::CHOICE {
-        return left | last;
-    }
-    left & last
 }

@@ -1,80 +1,58 @@
 // The test 5: the postfix order of the nodes, and where the part of each begins.
-ghost use Rattle.std.specs.Prelude.{◌≡◌, ℕ, ◌≤◌, ◌<◌, length};
-ghost use Rattle.meaning.specs.Node.{InTable};
-ghost use Rattle.procedure.specs.Entry.{held, right_of, unpacked};
-ghost use Rattle.procedure.specs.Order.{OrderTested, StartsAt};
+ghost use Rattle.std.specs.Prelude.{◌≡◌, ◌≤◌, ◌<◌};
+ghost use Rattle.procedure.specs.Entry.{held};
+ghost use Rattle.procedure.specs.Order.{FindsStarts, StartsAt};
 ghost use Rattle.procedure.specs.Listing.{TellsStarts};
 
-use crate::entry;
+use crate::MOST_NODES;
+use crate::node::Node;
+use meaning::Refusal;
 
-// Where the part of a node begins.
-#[derive(Clone, Copy)]
-pub enum Start {
-    // At this node.
-    At(usize),
-    // Nowhere: the node is out of order.
-    Nowhere,
-}
-
-// What a choice or a sequence calls its right child.
-fn right_of(entry: u64) -> usize
-    ensures { result ≡ right_of (unpacked entry) }
-{
-    (entry / entry::SECOND % entry::FIELD) as usize
-}
-
-// Where the part of node i begins, from the starts of the parts below.
-fn start_of(nodes: &[u64; 512], starts: &[u16], i: usize) -> Start
-    requires i_bound { (i < 512) × (i ≤ length starts.now) }
-    requires in_table { InTable (held nodes.now i) }
+// Where the part of node i begins, from the starts of the parts below; none where the node is out of order.
+fn start_of(nodes: &[Node; MOST_NODES], starts: &[u16; MOST_NODES], i: usize) -> Option<usize>
+    requires i_bound { i < 512 }
     requires tells_starts { TellsStarts (held nodes.now) starts.now i }
     ensures { StartsAt (held nodes.now) i result }
 {
-    let entry = nodes[i];
-    let kind = entry::kind_of(entry);
-    if kind < entry::CHOICE {
-        return Start::At(i);
-    }
-    if i < 1 {
-        return Start::Nowhere;
-    }
-    let before = numbers::wide(starts[i - 1]);
-    if kind == entry::REPEAT {
-        if entry::body_of(entry) != i - 1 {
-            return Start::Nowhere;
+    match nodes[i] {
+        Node::Empty | Node::Event(_) => Some(i),
+        Node::Repeat { body, .. } => {
+            if i < 1 || usize::from(body) != i - 1 {
+                return None;
+            }
+            Some(usize::from(starts[i - 1]))
         }
-        return Start::At(before);
+        Node::Choice { left, right } | Node::Sequence { left, right } => {
+            if i < 1 || usize::from(right) != i - 1 {
+                return None;
+            }
+            let before = starts[i - 1];
+            if before < 1 || left != before - 1 {
+                return None;
+            }
+            Some(usize::from(starts[usize::from(left)]))
+        }
     }
-    if right_of(entry) != i - 1 {
-        return Start::Nowhere;
-    }
-    if before < 1 {
-        return Start::Nowhere;
-    }
-    if entry::left_of(entry) != before - 1 {
-        return Start::Nowhere;
-    }
-    Start::At(numbers::wide(starts[before - 1]))
 }
 
-// The lowest of the first n nodes that is out of order; or the last, where its part does not begin at node 0; or n, and then the
-// table has where the part of each node begins.
-pub fn lowest_out_of_order(nodes: &[u64; 512], starts: &mut [u16], n: usize) -> usize
-    requires le_n { (1 ≤ n) × (n ≤ 512) × (n ≤ length starts.old) }
-    requires by_index { (j : ℕ) → j < n → InTable (held nodes.now j) }
-    ensures order_tested { OrderTested (held nodes.now) n result }
-    ensures tells_starts { n ≤ result → TellsStarts (held nodes.now) starts.new n }
+// Where the part of each of the first n nodes begins goes into the table. Refused is the lowest node that is out of order; or the last,
+// where its part does not begin at node 0.
+pub fn find_starts(
+    nodes: &[Node; MOST_NODES],
+    starts: &mut [u16; MOST_NODES],
+    n: usize,
+) -> Result<(), Refusal>
+    requires { (1 ≤ n) × (n ≤ 512) }
+    ensures { FindsStarts (held nodes.now) starts.new n result }
 {
-    let mut i = 0;
-    while i < n {
-        let Start::At(start) = start_of(nodes, starts, i) else {
-            return i;
+    for i in 0..n {
+        let Some(start) = start_of(nodes, starts, i) else {
+            return Err(Refusal::Order(i));
         };
-        starts[i] = numbers::narrow(start);
-        i += 1;
+        starts[i] = start as u16;
     }
     if 0 < starts[n - 1] {
-        return n - 1;
+        return Err(Refusal::Order(n - 1));
     }
-    n
+    Ok(())
 }

@@ -1,20 +1,30 @@
--- The event nodes of an expression that stands in entries which keep to the table. Assumes nothing.
+-- The event nodes of an expression that stands among the nodes. Assumes nothing.
 use mathlib.Core.Path.{◌≡◌, refl}
 use Prim.Native.Nat.{ℕ, ◌<◌}
 use native.Mathlib.Omega.{arith}
 use Rattle.meaning.specs.Expr.{Expr, event, size, Part}
-use Rattle.meaning.specs.Node.{Node, node, InTable, empty_line, event_line, choice_line, sequence_line, repeat_line, Stands}
+use Rattle.meaning.specs.Node.{node, Stands}
 use Rattle.meaning.proofs.File.EventNodes.{stands_part}
-use Rattle.procedure.specs.Entry.{kind_of, code_of}
+use Rattle.procedure.specs.Entry.{Entry, Nodes, held, code_of, kind_of, record_of}
+use Rattle.procedure.specs.declared.node.Node.TheVariants as entry
 
--- a record of kind 1 that keeps to the table is that of an event
-event_record : (m : Node) → InTable m → kind_of m ≡ 1 → m ≡ node 1 (code_of m) 0 0 0
-event_record m empty_line k = absurd (omega arith)
-event_record m (event_line c l) k = refl
-event_record m (choice_line l r) k = absurd (omega arith)
-event_record m (sequence_line l r) k = absurd (omega arith)
-event_record m (repeat_line x lower u few written l) k = absurd (omega arith)
+-- a record of kind 1 is that of an event
+event_record : (x : Entry) → kind_of (record_of x) ≡ 1 → record_of x ≡ node 1 (code_of (record_of x)) 0 0 0
+event_record entry.Empty k = absurd (omega arith)
+event_record (entry.Event c) k = refl
+event_record (entry.Choice l r) k = absurd (omega arith)
+event_record (entry.Sequence l r) k = absurd (omega arith)
+event_record (entry.Repeat b lower upper) k = absurd (omega arith)
 
--- so it is an event node of the expression
-pub record_event : (g : ℕ → Node) (e : Expr) → Stands g 0 e → (i : ℕ) → i < size e → InTable (g i) → kind_of (g i) ≡ 1 → Part 0 e i (event (code_of (g i)))
-record_event g e st i l kept k = stands_part g 0 e i (code_of (g i)) st (omega arith) (omega arith) (event_record (g i) kept k)
+-- and a node with the record of an event is that event
+pub event_of : (x : Entry) (c : ℕ) → record_of x ≡ node 1 c 0 0 0 → x ≡ entry.Event c
+event_of entry.Empty c h = absurd (cc)
+event_of (entry.Event d) c h = cc
+event_of (entry.Choice l r) c h = absurd (cc)
+event_of (entry.Sequence l r) c h = absurd (cc)
+event_of (entry.Repeat b lower upper) c h = absurd (cc)
+
+-- so a node of kind 1 is an event node of the expression
+pub node_event : (nodes : Nodes) (e : Expr) → Stands (held nodes) 0 e → (i : ℕ) → i < size e → kind_of (held nodes i) ≡ 1
+    → Part 0 e i (event (code_of (held nodes i)))
+node_event nodes e st i l k = stands_part (held nodes) 0 e i (code_of (held nodes i)) st (omega arith) (omega arith) (event_record _ k)

@@ -3,67 +3,71 @@ use mathlib.Core.Path.{◌≡◌, sym, ap, subst, ◌∙◌}
 use mathlib.Core.Logic.Iff
 use mathlib.Core.Logic.{◌↔◌, ◌⊎◌, inl, inr, ⊎_elim}
 use mathlib.Core.Bool.{Bool, true, false, false≢true}
-use mathlib.Core.List.{List, []}
+use mathlib.Core.List.{List}
 use Prim.Native.Nat.{ℕ, suc, ◌+◌, ◌-◌, ◌≤◌, ◌<◌}
 use native.Mathlib.Decide.{dec_le}
+use native.Mathlib.Numerals.{add-one}
 use native.Mathlib.Omega.{arith}
 use lib.ListN.{get_or}
-use Rattle.codes.specs.Codes.{Codes, Contains}
+use Rattle.std.proofs.Common.{None, Option}
+use Rattle.codes.specs.Codes.{Codes, Contains, no_codes}
 use Rattle.meaning.specs.Expr.{Expr, event, Part}
+use Rattle.meaning.specs.Node.{node}
 use Rattle.meaning.specs.Promises.{Lights}
 use Rattle.meaning.specs.Sets.{First}
 use Rattle.meaning.specs.Theory.Near.{Near}
 use Rattle.meaning.specs.Theory.Places.{Place, node_of}
 use Rattle.meaning.proofs.Places.Directly.{part_place}
-use Rattle.meaning.proofs.File.EventNodes.{part_stands}
+use Rattle.meaning.proofs.File.EventNodes.{part_stands, stands_part}
 use Rattle.meaning.proofs.Expressions.FirstWorded.{first_iff_worded}
 use Rattle.meaning.proofs.Places.Loosened.{lights_iff_near}
 use Rattle.meaning.proofs.Expressions.Parts.{root-size, part_within}
+use Rattle.procedure.specs.declared.node.Node.TheVariants as entry
 use Rattle.procedure.specs.Entry.{held, kind_of, code_of}
 use Rattle.sets.specs.Tables.{TellsSets}
 use Rattle.sets.proofs.Tables.{set_of_part}
-use Rattle.plan.specs.Plan.{Plans}
+use Rattle.plan.specs.declared.Plan.{Plan}
+use Rattle.plan.specs.Plan.{PlanOf}
+use Rattle.states.specs.StateBytes.{place_of}
 use Rattle.states.proofs.Readiness.{listing_bounded}
 use Rattle.prompt.specs.Near.{TellsNear, CodeNear, CodesNear, LitAt}
-use Rattle.prompt.proofs.EventNodes.{record_event}
+use Rattle.prompt.proofs.EventNodes.{event_of, node_event}
 
 -- ---- one node
 
-pub code_near : {nodes starts : List ℕ} {nulls : List Bool} {plan : List ℕ} {n p q : ℕ} {r : Bool} (set : Codes) (code : ℕ) → q < n → kind_of (held nodes q) ≡ 1
-    → TellsNear nodes starts nulls plan n p q r → r ≡ true → code ≡ code_of (held nodes q) → ((c : ℕ) → Contains set c ↔ (c ≡ code)) → CodeNear nodes starts nulls plan n p q set
-code_near {nodes} {q = q} set code l k w yes_near told only = record {
-  holds =
-      λ e t pl same c. (
-        λ h. (
-          (w.tells e t pl same).0 yes_near,
-          subst (λ (d : ℕ). Part 0 e q (event d)) (sym ((only c).0 h ∙ told))
-              (record_event (held nodes) e pl.listing.stands q (omega (arith, pl.listing.sized)) (pl.listing.table q l) k),
-        ),
-        λ f. (only c).1 (sym (told ∙ ap code_of (part_stands (held nodes) 0 e q c pl.listing.stands f.1))),
-      );
-}
+module _ {plan : Plan} {p q : ℕ} (set : Codes) where
+  pub code_near : (code own : ℕ) → q < plan.procedure.now.count → held plan.procedure.now.nodes q ≡ node 1 code 0 0 0
+      → {r : Bool} → TellsNear plan p q r → r ≡ true → own ≡ code → ((c : ℕ) → Contains set c ↔ (c ≡ own)) → CodeNear plan p q set
+  code_near code own l here w yes_near same_code only = record {
+    holds =
+        λ e t pl same c. (
+          λ h. (
+            (w.tells e t pl same).0 yes_near,
+            subst (λ (d : ℕ). Part 0 e q (event d)) (sym ((only c).0 h ∙ same_code))
+                (stands_part (held plan.procedure.now.nodes) 0 e q code pl.listing.stands (omega arith) (omega (arith, pl.listing.sized)) here),
+          ),
+          λ f. (only c).1 (ap code_of (sym (part_stands (held plan.procedure.now.nodes) 0 e q c pl.listing.stands f.1) ∙ here) ∙ sym same_code),
+        );
+  }
 
-pub code_not_near : {nodes starts : List ℕ} {nulls : List Bool} {plan : List ℕ} {n p q : ℕ} {r : Bool} (set : Codes) → TellsNear nodes starts nulls plan n p q r → r ≡ false → ((c : ℕ) → ¬ Contains set c)
-    → CodeNear nodes starts nulls plan n p q set
-code_not_near set w not-near none = record {
-  holds = λ e t pl same c. (λ h. absurd (none c h), λ f. absurd (false≢true (sym not-near ∙ (w.tells e t pl same).1 f.0)));
-}
+  pub code_not_near : {r : Bool} → TellsNear plan p q r → r ≡ false → ((c : ℕ) → ¬ Contains set c) → CodeNear plan p q set
+  code_not_near w not_near none = record {
+    holds = λ e t pl same c. (λ h. absurd (none c h), λ f. absurd (false≢true (sym not_near ∙ (w.tells e t pl same).1 f.0)));
+  }
 
-pub code_of_none : (nodes starts : List ℕ) (nulls : List Bool) (plan : List ℕ) (n p q : ℕ) (set : Codes) → ¬ (kind_of (held nodes q) ≡ 1) → ((c : ℕ) → ¬ Contains set c) → CodeNear nodes starts nulls plan n p q set
-code_of_none nodes starts nulls plan n p q set other none = record {
-  holds =
-      λ e t pl same c.
-      (λ h. absurd (none c h), λ f. absurd (other (ap kind_of (part_stands (held nodes) 0 e q c pl.listing.stands f.1))));
-}
+  pub code_of_none : ((c : ℕ) → ¬ (get_or plan.procedure.now.nodes q entry.Empty ≡ entry.Event c)) → ((c : ℕ) → ¬ Contains set c)
+      → CodeNear plan p q set
+  code_of_none other none = record {
+    holds =
+        λ e t pl same c.
+        (λ h. absurd (none c h), λ f. absurd (other c (event_of _ c (part_stands (held plan.procedure.now.nodes) 0 e q c pl.listing.stands f.1))));
+  }
 
 -- ---- the nodes passed
 
-pub codes_none : {nodes starts : List ℕ} {nulls : List Bool} {plan : List ℕ} {n p : ℕ} {set : Codes} → ((c : ℕ) → ¬ Contains set c) → CodesNear nodes starts nulls plan n p 0 set
-codes_none none = record { holds = λ e t pl same c. (λ h. absurd (none c h), λ f. absurd (omega (arith, f.1))) }
-
-pub codes_more : {nodes starts : List ℕ} {nulls : List Bool} {plan : List ℕ} {n p i : ℕ} {set own : Codes} (all : Codes) → CodesNear nodes starts nulls plan n p i set → CodeNear nodes starts nulls plan n p i own
-    → ((c : ℕ) → Contains all c ↔ (Contains set c ⊎ Contains own c)) → CodesNear nodes starts nulls plan n p (i + 1) all
-codes_more {nodes} {starts} {nulls} {plan} {n} {p} {i} {set} {own} all below here either = record {
+pub codes_more : {plan : Plan} {p i : ℕ} {set own : Codes} (all : Codes) → CodesNear plan p i set → CodeNear plan p i own
+    → ((c : ℕ) → Contains all c ↔ (Contains set c ⊎ Contains own c)) → CodesNear plan p (i + 1) all
+codes_more {plan} {p} {i} {set} {own} all below here either = record {
   holds =
       λ e t pl same c. (
         λ h. ⊎_elim
@@ -74,7 +78,7 @@ codes_more {nodes} {starts} {nulls} {plan} {n} {p} {i} {set} {own} all below her
       );
 }
   where
-    side : (e : Expr) (t : Place e) → Plans nodes starts nulls plan n e → node_of 0 e t ≡ p → (c : ℕ)
+    side : (e : Expr) (t : Place e) → PlanOf plan e → node_of 0 e t ≡ p → (c : ℕ)
         → (f : (q : ℕ) × (q < i + 1) × Near 0 e t q × Part 0 e q (event c)) → Dec (i ≤ f.0) → Contains set c ⊎ Contains own c
     side e t pl same c f (yes l) =
         let last : f.0 ≡ i = omega (arith, f.1) in
@@ -83,15 +87,15 @@ codes_more {nodes} {starts} {nulls} {plan} {n} {p} {i} {set} {own} all below her
 
 -- ---- the codes lit
 
-pub lit_after : {nodes starts : List ℕ} {nulls : List Bool} {plan : List ℕ} {n p : ℕ} (set : Codes) → p < n → kind_of (held nodes p) ≡ 1 → CodesNear nodes starts nulls plan n p n set
-    → LitAt nodes starts nulls plan n (suc p) set
-lit_after {nodes} {starts} {nulls} {plan} {n} {p} set l k near = record { holds = λ e pl c. both e pl c }
+pub lit_after : {plan : Plan} {p : ℕ} (set : Codes) → p < plan.procedure.now.count → kind_of (held plan.procedure.now.nodes p) ≡ 1
+    → CodesNear plan p plan.procedure.now.count set → LitAt plan (p + 1) set
+lit_after {plan} {p} set l k near = subst (λ (i : ℕ). LitAt plan i set) (sym (add-one p)) (record { holds = λ e pl c. both e pl c })
   where
-    both : (e : Expr) → Plans nodes starts nulls plan n e → (c : ℕ) → Contains set c ↔ Lights e (suc p) c
+    both : (e : Expr) → PlanOf plan e → (c : ℕ) → Contains set c ↔ Lights e (suc p) c
     both e pl c =
         let h = listing_bounded pl.listing in
-        let w = record_event (held nodes) e pl.listing.stands p (omega (arith, pl.listing.sized)) (pl.listing.table p l) k in
-        let t = part_place 0 e h p (code_of (held nodes p)) w in
+        let w = node_event plan.procedure.now.nodes e pl.listing.stands p (omega (arith, pl.listing.sized)) k in
+        let t = part_place 0 e h p (code_of (held plan.procedure.now.nodes p)) w in
         let lit = lights_iff_near e h t.0 c in
         let there = near.holds e t.0 pl t.2 c in (
           λ w. let f = there.0 w in subst (λ (i : ℕ). Lights e (suc i) c) t.2 (lit.1 (f.0, f.2, f.3)),
@@ -101,18 +105,17 @@ lit_after {nodes} {starts} {nulls} {plan} {n} {p} set l k near = record { holds 
               there.1 (f.0, omega (arith, within.1, pl.listing.sized), f.1, f.2),
         )
 
-pub lit_as : {nodes starts : List ℕ} {nulls : List Bool} {plan : List ℕ} {n i node : ℕ} {set : Codes} → node ≡ i → LitAt nodes starts nulls plan n i set → LitAt nodes starts nulls plan n node set
-lit_as {nodes} {starts} {nulls} {plan} {n} {i} {node} {set} same w = subst (λ (j : ℕ). LitAt nodes starts nulls plan n j set) (sym same) w
-
--- ---- first of the root
-
-pub lit_at_start : (nodes starts : List ℕ) (nulls : List Bool) (firsts : List Codes) (plan : List ℕ) (n : ℕ) → TellsSets First (held nodes) firsts n
-    → LitAt nodes starts nulls plan n 0 (get_or firsts (n - 1) [])
-lit_at_start nodes starts nulls firsts plan n told = record {
-  holds =
-      λ e pl c.
-      let last = root-size 0 e in
-      let here = pl.listing.sized in
-      Iff.trans (set_of_part First (held nodes) firsts n (n - 1) 0 e told (omega arith) pl.listing.stands (omega arith) c)
-      (first_iff_worded e (listing_bounded pl.listing) c);
-}
+-- first of the root, where nothing was reached
+pub lit_at_start : {plan : Plan} {reached : Option ℕ} (firsts : List Codes) → reached ≡ None
+    → TellsSets First (held plan.procedure.now.nodes) firsts plan.procedure.now.count
+    → LitAt plan (place_of reached) (get_or firsts (plan.procedure.now.count - 1) no_codes)
+lit_at_start {plan} firsts none told =
+    subst (λ (o : Option ℕ). LitAt plan (place_of o) (get_or firsts (plan.procedure.now.count - 1) no_codes)) (sym none)
+    record {
+      holds =
+          λ e pl c.
+          let last = root-size 0 e in
+          let here = pl.listing.sized in
+          Iff.trans (set_of_part First (held plan.procedure.now.nodes) firsts _ _ 0 e told (omega arith) pl.listing.stands (omega arith) c)
+          (first_iff_worded e (listing_bounded pl.listing) c);
+    }

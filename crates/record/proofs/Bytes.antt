@@ -3,11 +3,18 @@ use mathlib.Core.Path.{◌≡◌, refl, sym, ap, ◌∙◌}
 use mathlib.Core.List.{List, [], ◌∷◌}
 use Prim.Native.Nat.{ℕ, zero, suc, ◌+◌, ◌*◌, ◌/◌, ◌%◌, ◌≤◌, ◌<◌}
 use native.Mathlib.Omega.{arith}
-use lib.ListN.{length, drop, get_or, get_or-eq_default}
+use lib.ListN.{length, drop, get_or}
 use native.Mathlib.Numerals.{add-one}
+use Rattle.std.proofs.lemmas.Option.{slice_get_past}
+use Rattle.std.specs.Prelude.{Option, Some, None, nat_eq}
+use Rattle.std.specs.List.{slice_get}
+use Rattle.std.specs.Option.{option_eq}
+use Rattle.procedure.specs.Tests.{Decides}
+use mathlib.Core.Bool.{Bool, true, false, false≢true, not, not-not}
+use borrow.Author.Tests.{eq-eqb, eqb-true}
 use Rattle.meaning.specs.Bytes.{in_twos, two_at}
 use Rattle.meaning.specs.Theory.Counts.{Narrow}
-use Rattle.record.specs.Walk.{items_in, no_item, Inside, Outside}
+use Rattle.record.specs.Walk.{items_in, Inside, Names, Outside}
 
 pub items_length : (b : List ℕ) → length (items_in b) ≡ length b / 2
 items_length [] = refl
@@ -15,17 +22,17 @@ items_length (x ∷ []) = refl
 items_length (x ∷ y ∷ b) = omega (arith, items_length b)
 
 -- item k stands in the bytes 2 k and 2 k + 1
-pub item_in : (b : List ℕ) (k : ℕ) → 2 * k + 1 < length b → get_or (items_in b) k no_item ≡ two_at b (2 * k)
+pub item_in : (b : List ℕ) (k : ℕ) → 2 * k + 1 < length b → slice_get (items_in b) k ≡ Some (two_at b (2 * k))
 item_in [] k h = absurd (omega arith)
 item_in (x ∷ []) k h = absurd (omega arith)
 item_in (x ∷ y ∷ b) zero h = refl
 item_in (x ∷ y ∷ b) (suc k) h =
     let low : 2 * suc k ≡ suc (suc (2 * k)) = omega arith in
     let high : 2 * suc k + 1 ≡ suc (suc (2 * k + 1)) = omega arith in
-    item_in b k (omega arith) ∙ sym (λ i. get_or (x ∷ y ∷ b) (low i) 0 + 256 * get_or (x ∷ y ∷ b) (high i) 0)
+    item_in b k (omega arith) ∙ sym (λ i. Some (get_or (x ∷ y ∷ b) (low i) 0 + 256 * get_or (x ∷ y ∷ b) (high i) 0))
 
-pub item_past : (b : List ℕ) (k : ℕ) → length b ≤ 2 * k + 1 → get_or (items_in b) k no_item ≡ no_item
-item_past b k h = get_or-eq_default (items_in b) no_item (omega (arith, items_length b))
+pub item_past : (b : List ℕ) (k : ℕ) → length b ≤ 2 * k + 1 → slice_get (items_in b) k ≡ None
+item_past b k h = slice_get_past (items_in b) k (omega (arith, items_length b))
 
 -- ---- from items to bytes and back
 
@@ -52,23 +59,44 @@ twos_of_items (x ∷ y ∷ b) h small =
 
 -- ---- the item at a place
 
--- an item that names a node stands there
-pub item_there : (w : List ℕ) (at n : ℕ) → n ≡ get_or w at no_item → n % 4096 < 4095 → (at < length w) × (drop at w ≡ n ∷ drop (at + 1) w)
-item_there [] at n e h = absurd (omega arith)
-item_there (a ∷ w) zero n e h = (omega arith, λ i. (sym e i) ∷ w)
-item_there (a ∷ w) (suc at) n e h =
-    let k = item_there w at n e h in
+pub item_there : (w : List ℕ) (at n : ℕ) → slice_get w at ≡ Some n → (at < length w) × (drop at w ≡ n ∷ drop (at + 1) w)
+item_there [] at n e = let z : ◌≡◌ {A = ℕ} 0 1 = cc in absurd (omega arith)
+item_there (a ∷ w) zero n e = let z : a ≡ n = cc in (omega arith, λ i. z i ∷ w)
+item_there (a ∷ w) (suc at) n e =
+    let k = item_there w at n e in
     (omega (arith, k.0), k.1 ∙ ap (λ (j : ℕ). n ∷ drop j w) (add-one at) ∙ ap (λ (j : ℕ). n ∷ drop j (a ∷ w)) (sym (add-one (suc at))))
 
--- the numbers from a place on begin with the item there
-pub begins_with : (w : List ℕ) (at n m : ℕ) (u : List ℕ) → n ≡ get_or w at no_item → drop at w ≡ m ∷ u → n ≡ m
-begins_with [] zero n m u e h = let c : ◌≡◌ {A = ℕ} 0 1 = cc in absurd (omega arith)
-begins_with [] (suc at) n m u e h = let c : ◌≡◌ {A = ℕ} 0 1 = cc in absurd (omega arith)
-begins_with (a ∷ w) zero n m u e h = cc
-begins_with (a ∷ w) (suc at) n m u e h = begins_with w at n m u e h
+-- the item that the numbers from a place on begin with
+pub begins_with : (w : List ℕ) (at n : ℕ) (u : List ℕ) → drop at w ≡ n ∷ u → slice_get w at ≡ Some n
+begins_with [] zero n u e = let z : ◌≡◌ {A = ℕ} 0 1 = cc in absurd (omega arith)
+begins_with [] (suc at) n u e = let z : ◌≡◌ {A = ℕ} 0 1 = cc in absurd (omega arith)
+begins_with (a ∷ w) zero n u e = cc
+begins_with (a ∷ w) (suc at) n u e = begins_with w at n u e
 
-pub outside_at : (w : List ℕ) (at n s i : ℕ) → n ≡ get_or w at no_item → ¬ Inside s i n → Outside s i (drop at w)
-outside_at [] zero n s i e h = tt
-outside_at [] (suc at) n s i e h = tt
-outside_at (a ∷ w) zero n s i e h = λ p. h (rw e p)
-outside_at (a ∷ w) (suc at) n s i e h = outside_at w at n s i e h
+-- an item that names a node of a part
+pub item_named : (w : List ℕ) (at s i : ℕ) (item : Option ℕ) → item ≡ slice_get w at → Names s i item
+    → (n : ℕ) × Inside s i n × (item ≡ Some n) × (at < length w) × (drop at w ≡ n ∷ drop (at + 1) w)
+item_named w at s i (Some n) e h = let there = item_there w at n (sym e) in (n, h, refl, there.0, there.1)
+item_named w at s i None e h = absurd h
+
+pub outside_at : (w : List ℕ) (at s i : ℕ) (item : Option ℕ) → item ≡ slice_get w at → ¬ Names s i item → Outside s i (drop at w)
+outside_at [] zero s i item e h = tt
+outside_at [] (suc at) s i item e h = tt
+outside_at (a ∷ w) zero s i item e h = λ p. h (rw e p)
+outside_at (a ∷ w) (suc at) s i item e h = outside_at w at s i item e h
+
+-- the test whether an item is this one
+pub same_item : (item : Option ℕ) (n : ℕ) (same : Bool) → same ≡ option_eq nat_eq item (Some n) → Decides (item ≡ Some n) same
+same_item (Some m) n true e = ap Some (eqb-true m n (sym e))
+same_item (Some m) n false e = λ q. let h : m ≡ n = cc in false≢true (e ∙ eq-eqb m n h)
+same_item None n true e = absurd (false≢true (sym e))
+same_item None n false e = λ q. let z : ◌≡◌ {A = ℕ} 0 1 = cc in omega arith
+
+-- and whether the item at a place is
+pub item_read : (w : List ℕ) (at n : ℕ) (item : Option ℕ) (same : Bool) → item ≡ slice_get w at → same ≡ option_eq nat_eq item (Some n)
+    → Decides (slice_get w at ≡ Some n) same
+item_read w at n item same e told = rw (← e) (same_item item n same told)
+
+pub item_other : (w : List ℕ) (at n : ℕ) (item : Option ℕ) (other : Bool) → item ≡ slice_get w at → other ≡ not (option_eq nat_eq item (Some n))
+    → Decides (slice_get w at ≡ Some n) (not other)
+item_other w at n item other e told = item_read w at n item (not other) e (ap not told ∙ not-not (option_eq nat_eq item (Some n)))

@@ -4,6 +4,7 @@ pub mod Answers
 pub mod Blocks
 mod Bytes
 mod Eats
+mod Parts
 pub mod Puts
 mod Stays
 mod Walks

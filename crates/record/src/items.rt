@@ -1,10 +1,11 @@
 // The items of a record, two bytes each, by their places.
-ghost use Rattle.std.specs.Prelude.{◌≡◌, get_or};
+ghost use Rattle.std.specs.Prelude.{◌≡◌};
+ghost use Rattle.std.specs.List.{slice_get};
 ghost use Rattle.procedure.specs.Tests.{Decides};
 ghost use Rattle.record.specs.Put.{put_at};
-ghost use Rattle.record.specs.Walk.{Inside, items_in, no_item};
+ghost use Rattle.record.specs.Walk.{Names, items_in};
 
-// An item is its node, plus this for each mark.
+// An item is its node, plus this for each mark: a number and no enum, since the walk compares it whole with the one that must stand there.
 const MARK: usize = 4096;
 
 // What an opening and a closing add to the node of their repeat.
@@ -12,17 +13,14 @@ pub const OPENING: usize = 1 * MARK;
 
 pub const CLOSING: usize = 2 * MARK;
 
-// The item past the end. Its node lies in no part.
-const NO_ITEM: usize = 65535;
-
-// The item at a place of the record, or NO_ITEM past the end.
-fn item_at(bytes: &[u8], at: usize) -> usize
-    ensures { result ≡ get_or (items_in bytes.now) at no_item }
+// The item at a place of the record; none past the end.
+fn item_at(bytes: &[u8], at: usize) -> Option<usize>
+    ensures { result ≡ slice_get (items_in bytes.now) at }
 {
     if at < bytes.len() / 2 {
-        return numbers::two_at(bytes, 2 * at) as usize;
+        return Some(usize::from(numbers::two_at(bytes, 2 * at)));
     }
-    NO_ITEM
+    None
 }
 
 // A record and a place in it.
@@ -32,32 +30,27 @@ pub struct Reader<'a> {
     pub at: usize,
 }
 
-// The item at the reader's place, or NO_ITEM past the end.
-fn next<'a>(reader: Reader<'a>) -> usize
-    ensures { result ≡ get_or (items_in reader.entry.bytes.now) reader.entry.at no_item }
-{
-    item_at(reader.bytes, reader.at)
+impl<'a> Reader<'a> {
+    // The item at the reader's place; none past the end.
+    fn next(self) -> Option<usize>
+        ensures { result ≡ slice_get (items_in self.entry.bytes.now) self.entry.at }
+    {
+        item_at(self.bytes, self.at)
+    }
 }
 
 // One item of the record. Every item that is taken is taken here.
-pub fn read_item(bytes: &[u8], at: usize) -> usize
-    ensures { result ≡ get_or (items_in bytes.now) at no_item }
+pub fn read_item(bytes: &[u8], at: usize) -> Option<usize>
+    ensures { result ≡ slice_get (items_in bytes.now) at }
 {
-    next(Reader { bytes, at })
+    Reader { bytes, at }.next()
 }
 
-// Whether the item names one of the nodes s to i.
-pub fn inside(item: usize, s: usize, i: usize) -> bool
-    ensures { Decides (Inside s i item) result }
+// Whether there is an item and it names one of the nodes s to i.
+pub fn inside(item: Option<usize>, s: usize, i: usize) -> bool
+    ensures { Decides (Names s i item) result }
 {
-    let node = item % MARK;
-    if node < s {
-        return false;
-    }
-    if i < node {
-        return false;
-    }
-    true
+    item.is_some_and(|item| (s..=i).contains(&(item % MARK)))
 }
 
 // Puts an item at a place of the space, where its two bytes fit.

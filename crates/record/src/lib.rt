@@ -7,46 +7,27 @@ ghost use Rattle.procedure.specs.Entry.{held};
 ghost use Rattle.procedure.specs.Listing.{Listing, TellsNulls};
 ghost use Rattle.record.specs.Walk.{RecordOf};
 
-use meaning::CheckAnswer;
-use procedure::Opened;
-use walk::Taken;
+use meaning::Refusal;
+use procedure::Procedure;
 
 pub mod items; // items.rt: the items of a record, by their places
 pub mod walk; // walk.rt: what a part takes of the items
 
-// Whether the bytes are the record of a reading of the n nodes.
-fn is_record(nodes: &[u64; 512], nulls: &[bool; 512], n: usize, bytes: &[u8]) -> bool
-    requires listing { (e : Expr) × Listing nodes.now n e }
-    requires tells_nulls { TellsNulls (held nodes.now) nulls.now n }
-    ensures { RecordOf nodes.now n bytes.now result }
+// Whether the bytes are the record of a reading of the procedure.
+fn is_record(procedure: &Procedure, bytes: &[u8]) -> bool
+    requires listing { (e : Expr) × Listing procedure.now.nodes procedure.now.count e }
+    requires tells_nulls { TellsNulls (held procedure.now.nodes) procedure.now.nulls procedure.now.count }
+    ensures { RecordOf procedure.now.nodes procedure.now.count bytes.now result }
 {
-    if bytes.len() % 2 != 0 {
-        return false;
-    }
-    let Taken::To(end) = walk::take(nodes, nulls, bytes, 0, n - 1, 0) else {
-        return false;
-    };
-    if end != bytes.len() / 2 {
-        return false;
-    }
-    true
+    bytes.len() % 2 == 0
+        && walk::take(procedure, bytes, 0, procedure.count - 1, 0) == Some(bytes.len() / 2)
 }
 
-// Check: 1 to 6, or yes or no. A conflict does not matter here.
-pub fn check(file: &[u8], bytes: &[u8]) -> CheckAnswer
+// Check: whether the bytes are the record of a reading; or refused with 1 to 6. A conflict does not matter here.
+pub fn check(file: &[u8], bytes: &[u8]) -> Result<bool, Refusal>
     ensures { Checks file.now bytes.now result }
 {
-    let mut nodes = [0u64; 512];
-    let mut starts = [0u16; 512];
-    let mut nulls = [false; 512];
-    let mut repeats = [0u16; 32];
-    match procedure::read(file, &mut nodes, &mut starts, &mut nulls, &mut repeats) {
-        Opened::Refused(r) => CheckAnswer::Refused(r),
-        Opened::Nodes(n, _) => {
-            if is_record(&nodes, &nulls, n, bytes) {
-                return CheckAnswer::Yes;
-            }
-            CheckAnswer::No
-        }
-    }
+    let mut procedure = Procedure::blank();
+    procedure.read(file)?;
+    Ok(is_record(&procedure, bytes))
 }

@@ -5,7 +5,7 @@
 ghost use Rattle.meaning.specs.Numbers.{checked, followed, judged, prompted, wrote};
 ghost use Rattle.meaning.specs.Promises.{CheckPromise, FollowPromise, JudgePromise, PromptPromise, WritePromise};
 
-use meaning::{CheckAnswer, FollowAnswer, JudgeAnswer, PromptAnswer, WriteAnswer};
+use rows::{Row, number_of};
 
 mod rows; // rows.rt: a refusal and a verdict as the request's numbers
 
@@ -29,9 +29,9 @@ pub fn seq_judge(
     *high = 0;
     *count = 0;
     match judge::judge(file) {
-        JudgeAnswer::Admitted => 0,
-        JudgeAnswer::Refused(refusal) => {
-            let row = rows::row_of(refusal);
+        Ok(()) => 0,
+        Err(refusal) => {
+            let row = Row::from(refusal);
             // At most 511: a file has at most 512 nodes.
             *node = row.node as u32;
             *kind = row.kind;
@@ -57,12 +57,12 @@ pub fn seq_follow(
     *taken = 0;
     *verdict = 0;
     match follow::follow(file, state, events) {
-        FollowAnswer::Followed(count, stands) => {
-            *taken = count;
-            *verdict = rows::verdict_of(stands);
+        Ok(followed) => {
+            *taken = followed.taken;
+            *verdict = rows::verdict_number(followed.verdict);
             0
         }
-        FollowAnswer::Refused(refusal) => rows::number_of(refusal),
+        Err(refusal) => number_of(refusal),
     }
 }
 
@@ -72,11 +72,11 @@ pub fn seq_write(file: &[u8], run: &[u8], space: &mut [u8], length: &mut u64) ->
 {
     *length = 0;
     match write::write(file, run, space) {
-        WriteAnswer::Written(bytes) => {
+        Ok(bytes) => {
             *length = bytes;
             0
         }
-        WriteAnswer::Refused(refusal) => rows::number_of(refusal),
+        Err(refusal) => number_of(refusal),
     }
 }
 
@@ -86,12 +86,11 @@ pub fn seq_check(file: &[u8], bytes: &[u8], yes: &mut u32) -> u32
 {
     *yes = 0;
     match record::check(file, bytes) {
-        CheckAnswer::Yes => {
-            *yes = 1;
+        Ok(found) => {
+            *yes = u32::from(found);
             0
         }
-        CheckAnswer::No => 0,
-        CheckAnswer::Refused(refusal) => rows::number_of(refusal),
+        Err(refusal) => number_of(refusal),
     }
 }
 
@@ -102,11 +101,11 @@ pub fn seq_prompt(file: &[u8], state: &[u8], low: &mut u64, high: &mut u64) -> u
     *low = 0;
     *high = 0;
     match prompt::prompt(file, state) {
-        PromptAnswer::Lit(l, h) => {
-            *low = l;
-            *high = h;
+        Ok(lit) => {
+            *low = lit.low;
+            *high = lit.high;
             0
         }
-        PromptAnswer::Refused(refusal) => rows::number_of(refusal),
+        Err(refusal) => number_of(refusal),
     }
 }

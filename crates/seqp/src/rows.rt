@@ -1,11 +1,12 @@
 // The rows of the request's tables: a refusal and a verdict as its numbers. Every case is named, so that a new one has to be told.
 ghost use Rattle.std.specs.Prelude.{◌≡◌};
+ghost use Rattle.meaning.specs.Conflict.{kind_number};
 ghost use Rattle.meaning.specs.Numbers.{judged, plain, row, verdict_number};
 
-use meaning::{Refusal, Verdict};
+use meaning::{ConflictKind, Refusal, Verdict};
 
 // A row of the table of refusals: the number, and what Judge reports with it.
-#[derive(Clone, Copy)]
+#[derive(Clone, Copy, PartialEq, Eq)]
 pub struct Row {
     pub answer: u32,
     pub node: usize,
@@ -31,30 +32,52 @@ fn plain(answer: u32, node: usize) -> Row
     }
 }
 
-// The row of the request's table.
-pub fn row_of(refusal: Refusal) -> Row
-    ensures { judged result.answer result.node result.kind result.code result.low result.high result.count ≡ row refusal }
+fn kind_number(kind: ConflictKind) -> u32
+    ensures { result ≡ kind_number kind }
 {
-    match refusal {
-        Refusal::Size => plain(1, 0),
-        Refusal::Letters => plain(2, 0),
-        Refusal::Measures => plain(3, 0),
-        Refusal::Record(node) => plain(4, node),
-        Refusal::Order(node) => plain(5, node),
-        Refusal::Repeats(node) => plain(6, node),
-        Refusal::Conflict(node, kind, code, low, high, count) => Row {
-            answer: 7,
-            node,
-            kind,
-            code,
-            low,
-            high,
-            count,
-        },
-        Refusal::Unreached => plain(8, 0),
-        Refusal::Length => plain(9, 0),
-        Refusal::Incomplete => plain(10, 0),
-        Refusal::Room => plain(11, 0),
+    match kind {
+        ConflictKind::Choice => 1,
+        ConflictKind::EmptyLeft => 2,
+        ConflictKind::AfterLeft => 3,
+        ConflictKind::Repeat => 4,
+    }
+}
+
+// The row of the request's table.
+impl From<Refusal> for Row {
+    ghost use Rattle.std.specs.Prelude.{◌≡◌};
+    ghost use Rattle.meaning.specs.Numbers.{judged, row};
+
+    ghost from_gives = { λ refusal r. judged r.answer r.node r.kind r.code r.low r.high r.count ≡ row refusal };
+
+    fn from(refusal: Refusal) -> Row {
+        match refusal {
+            Refusal::Size => plain(1, 0),
+            Refusal::Letters => plain(2, 0),
+            Refusal::Measures => plain(3, 0),
+            Refusal::Record(node) => plain(4, node),
+            Refusal::Order(node) => plain(5, node),
+            Refusal::Repeats(node) => plain(6, node),
+            Refusal::Conflict {
+                node,
+                kind,
+                code,
+                shared,
+                count,
+            } => Row {
+                answer: 7,
+                node,
+                kind: kind_number(kind),
+                code,
+                low: shared.low,
+                high: shared.high,
+                count,
+            },
+            Refusal::Unreached => plain(8, 0),
+            Refusal::Length => plain(9, 0),
+            Refusal::Incomplete => plain(10, 0),
+            Refusal::Room => plain(11, 0),
+        }
     }
 }
 
@@ -62,12 +85,11 @@ pub fn row_of(refusal: Refusal) -> Row
 pub fn number_of(refusal: Refusal) -> u32
     ensures { result ≡ (row refusal).answer }
 {
-    let row = row_of(refusal);
-    row.answer
+    Row::from(refusal).answer
 }
 
 // How a run stands.
-pub fn verdict_of(verdict: Verdict) -> u32
+pub fn verdict_number(verdict: Verdict) -> u32
     ensures { result ≡ verdict_number verdict }
 {
     match verdict {

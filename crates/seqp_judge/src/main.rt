@@ -9,12 +9,12 @@ const MOST_READ: usize = 8205;
 fn main(rt: HostRuntime) -> std::io::Result<()> {
     let mut file = [0u8; MOST_READ];
     let length = read_full(&mut rt.stdin(), &mut file);
-    let mut node: u32 = 0;
-    let mut kind: u32 = 0;
-    let mut code: u32 = 0;
-    let mut low: u64 = 0;
-    let mut high: u64 = 0;
-    let mut count: u32 = 0;
+    let mut node = 0;
+    let mut kind = 0;
+    let mut code = 0;
+    let mut low = 0;
+    let mut high = 0;
+    let mut count = 0;
     let answer = seqp::seq_judge(
         &file[..length],
         &mut node,

@@ -1,40 +1,31 @@
--- The pass upward: what was found at the nodes below i, and at node i. Assumes nothing.
-use mathlib.Core.Bool.{Bool, true, false, So, false≢true, not, ◌&&◌}
+-- The pass upward: what the tables tell and what was found, at the nodes below i and in one node more. Assumes nothing.
+use mathlib.Core.Logic.{inl, inr, ⊎_elim}
 use mathlib.Core.List.{List}
-use mathlib.Core.Logic.{◌↔◌, inl, inr, ⊎_elim}
 use mathlib.Core.Path.{◌≡◌, refl, sym, subst}
 use Prim.Native.Nat.{ℕ, ◌+◌, ◌<◌}
 use native.Mathlib.Decide.{dec_lt}
 use native.Mathlib.Omega.{arith}
-use Rattle.codes.specs.Codes.{Contains}
+use lib.ListN.{length, set}
+use Rattle.std.specs.Prelude.{Option, Some, None}
+use Rattle.std.specs.Option.{option_or}
 use Rattle.meaning.specs.Conflict.{Conflict, ConflictAt}
 use Rattle.meaning.specs.Expr.{Expr, Part}
 use Rattle.meaning.specs.Sets.{First, After}
 use Rattle.meaning.proofs.Expressions.Parts.{part_unique, part_within}
-use Rattle.meaning.specs.Node.{Node}
-use Rattle.procedure.specs.Entry.{held}
+use Rattle.codes.specs.Codes.{Codes}
+use Rattle.procedure.specs.Entry.{Nodes, held}
 use Rattle.procedure.specs.Listing.{Listing}
 use Rattle.procedure.proofs.Standing.{inner_part}
-use Rattle.sets.specs.Lowest.{Conflicts, Lowest, OwnAt, Sooner, first, second}
-use Rattle.sets.specs.Sets.{WorkedAt}
-use Rattle.sets.specs.Tables.{SetAt}
-use Rattle.sets.specs.declared.conflict.Found.{Found}
+use Rattle.sets.specs.Lowest.{Clash, Conflicts, Lowest, OwnAt}
+use Rattle.sets.specs.Sets.{ClashAt, WorkedAt}
+use Rattle.sets.specs.Tables.{SetAt, TellsSets}
 use Rattle.sets.specs.declared.joins.NodeSets.{NodeSets}
-use Rattle.sets.proofs.Lowest.{Ahead, Either, NoCode, Same, lowest_either, lowest_kept, lowest_none, lowest_same, none_lowest}
-
--- ---- the sets that were worked out of a node
-
-pub first_at : (g : ℕ → Node) (i : ℕ) (x : NodeSets) → WorkedAt g i x → SetAt First g i x.first
-unfolding WorkedAt SetAt
-first_at g i x own = λ s e p h. (own s e p h).firsts
-
-pub after_at : (g : ℕ → Node) (i : ℕ) (x : NodeSets) → WorkedAt g i x → SetAt After g i x.after
-unfolding WorkedAt SetAt
-after_at g i x own = λ s e p h. (own s e p h).afters
+use Rattle.sets.proofs.Tables.{sets_more, sets_none}
+use Rattle.sets.proofs.Lowest.{Ahead, Either, Same, lowest_either, lowest_same}
 
 -- ---- the conflicts at the nodes below i, and at node i
 
-abbrev pub BelowNode : ℕ → Conflicts → Conflicts
+abbrev BelowNode : ℕ → Conflicts → Conflicts
 BelowNode i R j k c = (j < i) × R j k c
 
 abbrev AtNode : ℕ → Conflicts → Conflicts
@@ -50,16 +41,8 @@ below_next i R j k c = (⊎_elim (λ x. (omega (arith, x.0), x.1)) (λ x. (omega
     side x (yes l) = inl (l, x.1)
     side x (no l) = inr (omega (arith, x.0), x.1)
 
--- what was found in no node
-pub found_none : {R : Conflicts} {x : Found} → NoCode x.shared → Lowest (BelowNode 0 R) x
-found_none none = none_lowest (λ i k c x. absurd (omega (arith, x.0))) none
-
-module _ {nodes : List ℕ} {n : ℕ} (e : Expr) (listing : Listing nodes n e) where
-  -- in every node
-  pub found_all : {x : Found} → Lowest (BelowNode n (ConflictAt 0 e)) x → Lowest (ConflictAt 0 e) x
-  found_all f = lowest_same (λ i k c. (λ x. x.1, λ x. (omega (arith, part_within 0 e i x.0 x.1, listing.sized), x))) f
-
-  module _ (i : ℕ) (inside : i < n) (x : NodeSets) (own : WorkedAt (held nodes) i x) where
+module _ {nodes : Nodes} {n : ℕ} (e : Expr) (listing : Listing nodes n e) where
+  module _ (i : ℕ) (inside : i < n) (x : Option Clash) (own : ClashAt (held nodes) i x) where
     -- the node's own conflicts are those of the expression there
     own_same : (p : Expr) → Part 0 e i p → Same (OwnAt i p) (AtNode i (ConflictAt 0 e))
     own_same p w j k c = (
@@ -67,29 +50,49 @@ module _ {nodes : List ℕ} {n : ℕ} (e : Expr) (listing : Listing nodes n e) w
       λ y. (y.0, subst (λ (q : Expr). Conflict q k c) (part_unique 0 e i y.1.0 p (subst (λ (m : ℕ). Part 0 e m y.1.0) y.0 y.1.1) w) y.1.2),
     )
 
-    own_lowest : Lowest (AtNode i (ConflictAt 0 e)) x.conflict
-    unfolding WorkedAt
+    own_lowest : Lowest (AtNode i (ConflictAt 0 e)) x
+    unfolding ClashAt
     own_lowest =
         let p = inner_part (held nodes) 0 e listing.stands i (omega arith) (omega (arith, listing.sized)) in
-        lowest_same (own_same p.1 p.2) (own p.0 p.1 p.3 p.4).conflicts
+        lowest_same (OwnAt i p.1) _ (own_same p.1 p.2) x (own p.0 p.1 p.3 p.4)
 
-    -- ---- in one node more: `some` says whether it has a conflict, and `had` whether one was found before
+    -- in one node more: what was found before, or else the node's own
+    found_more : (before : Option Clash) → Lowest (BelowNode i (ConflictAt 0 e)) before → Lowest (BelowNode (i + 1) (ConflictAt 0 e)) (option_or before x)
+    found_more before found =
+        lowest_same _ _ (below_next i (ConflictAt 0 e)) (option_or before x)
+        (lowest_either _ _ (below_ahead i (ConflictAt 0 e)) before x found own_lowest)
 
-    module _ {before : Found} (found : Lowest (BelowNode i (ConflictAt 0 e)) before) where
-      either : {after : Found} → Sooner before x.conflict after → Lowest (BelowNode (i + 1) (ConflictAt 0 e)) after
-      either s = lowest_same (below_next i (ConflictAt 0 e)) (lowest_either (below_ahead i (ConflictAt 0 e)) s found own_lowest)
+-- ---- the pass, of whatever expression the n nodes list
 
-      -- its own is the lowest
-      pub found_here : (some had : Bool) → So had ↔ ((c : ℕ) × Contains before.shared c) → (some && not had) ≡ true
-          → Lowest (BelowNode (i + 1) (ConflictAt 0 e)) x.conflict
-      found_here true true told both = absurd (false≢true both)
-      found_here true false told both = either (second (λ c h. false≢true (told.1 (c, h))))
-      found_here false had told both = absurd (false≢true both)
+-- the tables tell of the nodes below i, and what was found is the lowest conflict of these
+pub record Passed (nodes : Nodes) (n : ℕ) (firsts afters : List Codes) (found : Option Clash) (i : ℕ) : Type 0 where
+  pub firsts_told : TellsSets First (held nodes) firsts i
+  pub afters_told : TellsSets After (held nodes) afters i
+  pub lowest : (e : Expr) → Listing nodes n e → Lowest (BelowNode i (ConflictAt 0 e)) found
 
-      -- what was found before stays
-      pub found_before : (some had : Bool) → So some ↔ ((c : ℕ) × Contains x.conflict.shared c) → So had ↔ ((c : ℕ) × Contains before.shared c)
-          → (some && not had) ≡ false → Lowest (BelowNode (i + 1) (ConflictAt 0 e)) before
-      found_before some true own had both = let c = had.0 refl in either (first c.0 c.1)
-      found_before true false own had both = absurd (false≢true (sym both))
-      found_before false false own had both =
-          lowest_same (below_next i (ConflictAt 0 e)) (lowest_kept (lowest_none own_lowest (λ c h. false≢true (own.1 (c, h)))) found)
+pub passed_none : (nodes : Nodes) (n : ℕ) (firsts afters : List Codes) → Passed nodes n firsts afters None 0
+passed_none nodes n firsts afters = record {
+  firsts_told = sets_none First (held nodes) firsts;
+  afters_told = sets_none After (held nodes) afters;
+  lowest = λ e l i k c x. absurd (omega (arith, x.0));
+}
+
+pub passed_more : {nodes : Nodes} {n : ℕ} {firsts afters : List Codes} {before found : Option Clash} {i : ℕ} (x : NodeSets) (own : Option Clash)
+    → Passed nodes n firsts afters before i → i < n → i < length firsts → i < length afters → WorkedAt (held nodes) i x → ClashAt (held nodes) i own
+    → found ≡ option_or before own → Passed nodes n (set firsts i x.first) (set afters i x.after) found (i + 1)
+unfolding WorkedAt SetAt
+passed_more {nodes} {n} {firsts} {afters} {before} {found} {i} x own p inside f a worked clash o = record {
+  firsts_told = sets_more First (held nodes) firsts i x.first f p.firsts_told (λ s e st at. (worked s e st at).firsts);
+  afters_told = sets_more After (held nodes) afters i x.after a p.afters_told (λ s e st at. (worked s e st at).afters);
+  lowest = λ e l. rw o (found_more e l i inside own clash before (p.lowest e l));
+}
+
+-- a node without a conflict leaves what was found
+pub or_none : (before : Option Clash) → before ≡ option_or before None
+or_none None = refl
+or_none (Some x) = refl
+
+pub passed_all : {nodes : Nodes} {n : ℕ} {firsts afters : List Codes} {found : Option Clash} {i : ℕ} → Passed nodes n firsts afters found i → i ≡ n
+    → (e : Expr) → Listing nodes n e → Lowest (ConflictAt 0 e) found
+passed_all {found = found} p all e listing =
+    lowest_same _ (ConflictAt 0 e) (λ j k c. (λ x. x.1, λ x. (omega (arith, part_within 0 e j x.0 x.1, listing.sized), x))) found (p.lowest e listing)

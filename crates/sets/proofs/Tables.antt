@@ -1,13 +1,13 @@
 -- A table of sets, filled one by one. Assumes nothing.
 use mathlib.Core.Path.{◌≡◌, sym, subst}
 use mathlib.Core.Logic.{◌↔◌}
-use mathlib.Core.List.{List, []}
+use mathlib.Core.List.{List}
 use Prim.Native.Nat.{ℕ, ◌+◌, ◌≤◌, ◌<◌}
 use native.Mathlib.Omega.{arith}
 use borrow.Author.Count.{below_more}
 use lib.ListN.{length, get_or, set}
 use lib.Seq.{get_or-set_same, get_or-set_other}
-use Rattle.codes.specs.Codes.{Codes, Contains}
+use Rattle.codes.specs.Codes.{Codes, Contains, no_codes}
 use Rattle.meaning.specs.Expr.{Expr, root}
 use Rattle.meaning.specs.Node.{Node, Stands}
 use Rattle.sets.specs.Tables.{SetAt, TellsSets}
@@ -21,18 +21,9 @@ module _ (P : Expr → ℕ → Type 0) (g : ℕ → Node) (sets : List Codes) wh
   unfolding TellsSets
   sets_more i own h known here =
       below_more _ i
-      (λ j l. subst (SetAt P g j) (sym (get_or-set_other sets i j own [] (omega arith))) (known j l))
-      (subst (SetAt P g i) (sym (get_or-set_same sets i own [] h)) here)
+      (λ j l. subst (SetAt P g j) (sym (get_or-set_other sets i j own no_codes (omega arith))) (known j l))
+      (subst (SetAt P g i) (sym (get_or-set_same sets i own no_codes h)) here)
 
-  -- what the table tells of a node is so of the part that stands there
-  pub set_told : (n i : ℕ) → TellsSets P g sets n → i < n → SetAt P g i (get_or sets i [])
-  unfolding TellsSets
-  set_told n i told l = told i l
-
-  pub sets_fewer : (m n : ℕ) → m ≤ n → TellsSets P g sets n → TellsSets P g sets m
-  unfolding TellsSets
-  sets_fewer m n h told = λ j l. told j (omega arith)
-
-  pub set_of_part : (n i s : ℕ) (e : Expr) → TellsSets P g sets n → i < n → Stands g s e → root s e ≡ i → (c : ℕ) → Contains (get_or sets i []) c ↔ P e c
+  pub set_of_part : (n i s : ℕ) (e : Expr) → TellsSets P g sets n → i < n → Stands g s e → root s e ≡ i → (c : ℕ) → Contains (get_or sets i no_codes) c ↔ P e c
   unfolding TellsSets SetAt
   set_of_part n i s e told l = told i l s e

@@ -1,25 +1,30 @@
 -- The lowest of some conflicts, with all the codes that it shares. A model of our code, and no promise.
-use Rattle.std.specs.Prelude.{◌≡◌, ◌↔◌, ℕ, ◌≤◌}
+use Rattle.std.specs.Prelude.{◌≡◌, ◌↔◌, ℕ, ◌≤◌, Option, Some, None}
 use Rattle.codes.specs.Codes.{Codes, Contains, Shared}
-use Rattle.meaning.specs.Conflict.{Conflict}
+use Rattle.meaning.specs.Conflict.{Conflict, kind_number}
 use Rattle.meaning.specs.Expr.{Expr}
-use Rattle.sets.specs.declared.conflict.Found.{Found}
+use Rattle.meaning.specs.Properties.{Least}
+use Rattle.sets.specs.declared.conflict.Conflict as found
+
+-- a conflict as the code holds it
+abbrev pub Clash : Type 0
+Clash = found.Conflict
 
 -- conflicts: of which node, kind and code there is one
 abbrev pub Conflicts : Type 1
 Conflicts = ℕ → ℕ → ℕ → Type 0
 
--- of the conflicts R: the lowest node, there the lowest kind, and the codes that it shares; no code where R has no conflict
-pub record Lowest (R : Conflicts) (x : Found) : Type 0 where
-  pub shares : (c : ℕ) → Contains x.shared c ↔ R x.node x.kind c
-  pub met : (i k c : ℕ) → R i k c → (d : ℕ) × Contains x.shared d
+-- a conflict is the lowest of the conflicts R: the lowest node, there the lowest kind, and the codes that it shares
+pub record LowestOf (R : Conflicts) (x : Clash) : Type 0 where
+  pub shares : (c : ℕ) → Contains x.shared c ↔ R x.node (kind_number x.kind) c
+  pub least : Least (Contains x.shared) x.code
   pub lowest_node : (i k c : ℕ) → R i k c → x.node ≤ i
-  pub lowest_kind : (k c : ℕ) → R x.node k c → x.kind ≤ k
+  pub lowest_kind : (k c : ℕ) → R x.node k c → kind_number x.kind ≤ k
 
--- of two conflicts the first, where it shares a code, and else the second
-pub data Sooner (x y : Found) : Found → Type 0 where
-  first : (c : ℕ) → Contains x.shared c → Sooner x y x
-  second : ((c : ℕ) → ¬ Contains x.shared c) → Sooner x y y
+-- what is found is the lowest of the conflicts R, or R has none
+abbrev pub Lowest : Conflicts → Option Clash → Type 0
+Lowest R (Some x) = LowestOf R x
+Lowest R None = (i k c : ℕ) → ¬ R i k c
 
 -- the conflicts of one node and one kind: the codes that two sets share
 abbrev pub SharedAt : ℕ → ℕ → Codes → Codes → Conflicts

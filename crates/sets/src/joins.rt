@@ -1,17 +1,15 @@
-// First and after of a node's part, and its own conflict, from what is known of its children. A set that stands in a struct goes by a
-// variable: that is the form that the prover covers.
+// First and after of a node's part, and the node's own conflict, from what is known of its children.
 ghost use Rattle.std.proofs.Math.Bool.{So};
 ghost use Rattle.std.specs.Prelude.{◌↔◌, ℕ, ◌<◌};
-ghost use Rattle.codes.specs.Codes.{Contains};
-ghost use Rattle.meaning.specs.Expr.{Expr, choice, sequence};
-ghost use Rattle.meaning.specs.Node.{InTable};
-ghost use Rattle.meaning.specs.Sets.{After};
-ghost use Rattle.procedure.specs.Entry.{kind_of, lower_of, unpacked, upper_of};
-ghost use Rattle.sets.specs.Sets.{Joins, OfLeaf, OverBody, PartOf};
+ghost use Rattle.codes.specs.Codes.{Contains, limit};
+ghost use Rattle.meaning.specs.Expr.{choice, sequence};
+ghost use Rattle.meaning.specs.Node.{node};
+ghost use Rattle.sets.specs.Sets.{Clashes, ClashesOver, EndsWith, Joins, OfLeaf, OverBody};
 
-use crate::conflict;
-use crate::conflict::Found;
-use procedure::{bounds, entry};
+use crate::conflict::Conflict;
+use codes::Codes;
+use meaning::ConflictKind;
+use procedure::bounds::Bounds;
 
 // What is known of a part.
 #[derive(Clone, Copy)]
@@ -19,109 +17,131 @@ pub struct PartSets {
     // Whether it has the empty word.
     pub null: bool,
     // The codes that begin its words.
-    pub first: [u64; 2],
+    pub first: Codes,
     // The codes with which a word of it may go on where it might end.
-    pub after: [u64; 2],
+    pub after: Codes,
 }
 
-// What is worked out of a node: first and after of its part, and the lowest conflict of the node itself.
+// What is worked out of a node: first and after of its part. Whether it has the empty word is known from reading, so this is no `PartSets`.
 #[derive(Clone, Copy)]
 pub struct NodeSets {
-    pub first: [u64; 2],
-    pub after: [u64; 2],
-    pub conflict: Found,
+    pub first: Codes,
+    pub after: Codes,
 }
 
 // The set where `when` is true, and else no code.
-fn only_if(when: bool, set: [u64; 2]) -> [u64; 2]
+fn only_if(when: bool, set: Codes) -> Codes
     ensures { (c : ℕ) → Contains result c ↔ (So when × Contains set c) }
 {
-    if when { set } else { codes::none() }
+    if when { set } else { Codes::none() }
 }
 
-// An empty node or an event.
-pub fn leaf_sets(node: u64) -> NodeSets
-    requires node_bound { kind_of (unpacked node) < 2 }
-    requires in_table { InTable (unpacked node) }
-    ensures { OfLeaf (unpacked node) result }
+// First of the right part of a sequence, where it may begin the sequence.
+fn begins_right(l: PartSets, r: PartSets) -> Codes
+    ensures { (c : ℕ) → Contains result c ↔ (So l.null × Contains r.first c) }
 {
-    let own = conflict::nothing();
-    if entry::kind_of(node) == entry::EMPTY {
-        return NodeSets {
-            first: codes::none(),
-            after: codes::none(),
-            conflict: own,
-        };
-    }
-    NodeSets {
-        first: codes::one(entry::code_of(node)),
-        after: codes::none(),
-        conflict: own,
-    }
-}
-
-// The choice at node i.
-pub fn choice_sets(i: usize, l: PartSets, r: PartSets) -> NodeSets
-    ensures { Joins choice i l r result }
-{
-    let left = l.first;
-    let right = r.first;
-    let after_left = l.after;
-    let after_right = r.after;
-    NodeSets {
-        first: codes::union(left, right),
-        after: codes::union(after_left, after_right),
-        conflict: conflict::shared_at(i, conflict::CHOICE, left, right),
-    }
+    only_if(l.null, r.first)
 }
 
 // After of a sequence.
-fn after_sequence(l: PartSets, r: PartSets) -> [u64; 2]
-    ensures { (a : Expr) (b : Expr) → PartOf a l → PartOf b r → (c : ℕ) → Contains result c ↔ After (sequence a b) c }
+#[tactic(auto, using(crate::proofs::Joining::after_right))]
+fn after_sequence(l: PartSets, r: PartSets) -> Codes
+    ensures { EndsWith l r result }
 {
-    let after_right = r.after;
     if r.null {
-        let left = l.first;
-        let right = r.first;
-        let after_left = l.after;
         // First of the right part, where it may come after an event of the left.
-        let follows = only_if(codes::any(left), right);
-        return codes::union(after_right, codes::union(after_left, follows));
+        let follows = only_if(!l.first.is_empty(), r.first);
+        return r.after | (l.after | follows);
     }
     // The right part must come, so it alone tells.
-    after_right
+    r.after
 }
 
-// The sequence at node i.
-pub fn sequence_sets(i: usize, l: PartSets, r: PartSets) -> NodeSets
-    ensures { Joins sequence i l r result }
-{
-    let left = l.first;
-    let right = r.first;
-    let after_left = l.after;
-    // First of the right part, where it may begin the sequence.
-    let begins = only_if(l.null, right);
-    let at_start = conflict::shared_at(i, conflict::EMPTY_LEFT, left, begins);
-    let at_seam = conflict::shared_at(i, conflict::AFTER_LEFT, after_left, right);
-    NodeSets {
-        first: codes::union(left, begins),
-        after: after_sequence(l, r),
-        conflict: conflict::or_else(at_start, at_seam),
+impl NodeSets {
+    // Of an empty node.
+    #[tactic(auto, using(crate::proofs::Leaves::leaf_empty))]
+    pub fn of_empty() -> NodeSets
+        ensures { OfLeaf (node 0 0 0 0 0) result }
+    {
+        NodeSets {
+            first: Codes::none(),
+            after: Codes::none(),
+        }
+    }
+
+    // Of the event with this code.
+    #[tactic(auto, using(crate::proofs::Leaves::leaf_event))]
+    pub fn of_event(code: u8) -> NodeSets
+        requires { code < limit }
+        ensures { OfLeaf (node 1 code 0 0 0) result }
+    {
+        NodeSets {
+            first: Codes::one(u32::from(code)),
+            after: Codes::none(),
+        }
+    }
+
+    // Of a choice.
+    #[tactic(auto, using(crate::proofs::Joining::joins_choice))]
+    pub fn of_choice(l: PartSets, r: PartSets) -> NodeSets
+        ensures { Joins choice l r result }
+    {
+        NodeSets {
+            first: l.first | r.first,
+            after: l.after | r.after,
+        }
+    }
+
+    // Of a sequence.
+    pub fn of_sequence(l: PartSets, r: PartSets) -> NodeSets
+        ensures { Joins sequence l r result }
+    {
+        NodeSets {
+            first: l.first | begins_right(l, r),
+            after: after_sequence(l, r),
+        }
+    }
+
+    // Of a repeat with these bounds as they are written.
+    #[tactic(auto, using(crate::proofs::Joining::over_body), unfolding(crate::specs::Sets::OverBody))]
+    pub fn of_repeat(lower: u16, upper: u16, b: PartSets) -> NodeSets
+        ensures { OverBody lower upper b result }
+    {
+        // First of the body, where another block may follow or not.
+        let may_follow = only_if(Bounds::normal(lower, upper, b.null).flexible(), b.first);
+        NodeSets {
+            first: b.first,
+            after: b.after | may_follow,
+        }
     }
 }
 
-// The repeat at node i.
-pub fn repeat_sets(i: usize, node: u64, b: PartSets) -> NodeSets
-    ensures { OverBody i (lower_of (unpacked node)) (upper_of (unpacked node)) b result }
-{
-    let first = b.first;
-    let after = b.after;
-    // First of the body: where another block may follow, and where it may follow or not.
-    let follows = only_if(bounds::again(node), first);
-    let may_follow = only_if(bounds::flexible(node, b.null), first);
-    NodeSets {
-        first,
-        after: codes::union(after, may_follow),
-        conflict: conflict::shared_at(i, conflict::REPEAT, after, follows),
+impl Conflict {
+    // Of the choice at node i.
+    #[tactic(auto, using(crate::proofs::Clashing::clash_choice))]
+    pub fn of_choice(i: usize, l: PartSets, r: PartSets) -> Option<Conflict>
+        ensures { Clashes choice i l r result }
+    {
+        Conflict::between(i, ConflictKind::Choice, l.first, r.first)
+    }
+
+    // Of the sequence at node i.
+    #[tactic(auto, using(crate::proofs::Clashing::clash_sequence))]
+    pub fn of_sequence(i: usize, l: PartSets, r: PartSets) -> Option<Conflict>
+        ensures { Clashes sequence i l r result }
+    {
+        let begins = begins_right(l, r);
+        let at_start = Conflict::between(i, ConflictKind::EmptyLeft, l.first, begins);
+        at_start.or_else(|| Conflict::between(i, ConflictKind::AfterLeft, l.after, r.first))
+    }
+
+    // Of the repeat at node i with this upper bound as it is written.
+    #[tactic(auto, using(crate::proofs::Clashing::clash_repeat), unfolding(crate::specs::Sets::ClashesOver))]
+    pub fn of_repeat(i: usize, upper: u16, b: PartSets) -> Option<Conflict>
+        ensures { ClashesOver i upper b result }
+    {
+        // First of the body, where another block may follow.
+        let follows = only_if(Bounds::normal(0, upper, b.null).again(), b.first);
+        Conflict::between(i, ConflictKind::Repeat, b.after, follows)
     }
 }

@@ -8,107 +8,125 @@ ghost use Rattle.meaning.specs.Sets.{First, After};
 ghost use Rattle.procedure.specs.Entry.{held};
 ghost use Rattle.procedure.specs.Listing.{Listing, OneOf, TellsNulls};
 ghost use Rattle.sets.specs.Lowest.{Lowest};
-ghost use Rattle.sets.specs.Sets.{WorkedAt, ReadAt};
+ghost use Rattle.sets.specs.Sets.{ClashAt, WorkedAt, ReadAt};
 ghost use Rattle.sets.specs.Tables.{TellsSets};
 
-use conflict::Found;
+use codes::Codes;
+use conflict::Conflict;
 use joins::{NodeSets, PartSets};
-use procedure::entry;
+use procedure::node::Node;
+use procedure::{MOST_NODES, Procedure};
 
-pub mod conflict; // conflict.rt: the lowest of some conflicts
+pub mod conflict; // conflict.rt: a conflict of two sets
 pub mod joins; // joins.rt: the sets of a node, from its children's
 
-// What the tables tell of the part of node j.
-fn part_at(nulls: &[bool; 512], firsts: &[[u64; 2]], afters: &[[u64; 2]], j: usize) -> PartSets
-    requires j_bound { j < 512 }
-    requires j_in_bounds { (j < length firsts.now) × (j < length afters.now) }
-    ensures { ReadAt nulls.now firsts.now afters.now j result }
-{
-    PartSets {
-        null: nulls[j],
-        first: firsts[j],
-        after: afters[j],
-    }
+// A procedure, and first and after of its parts as far as they are known.
+#[derive(Clone, Copy)]
+struct Known<'a> {
+    procedure: &'a Procedure,
+    firsts: &'a [Codes],
+    afters: &'a [Codes],
 }
 
-// What is worked out of node i, where the tables tell of the nodes below.
-fn sets_at(
-    nodes: &[u64; 512],
-    nulls: &[bool; 512],
-    firsts: &[[u64; 2]],
-    afters: &[[u64; 2]],
-    i: usize,
-) -> NodeSets
-    requires i_in_bounds { (i ≤ length firsts.now) × (i ≤ length afters.now) }
-    requires one_of { OneOf nodes.now i }
-    requires tells_nulls { TellsNulls (held nodes.now) nulls.now i }
-    requires tells_sets { TellsSets First (held nodes.now) firsts.now i }
-    requires tells_sets_2 { TellsSets After (held nodes.now) afters.now i }
-    ensures { WorkedAt (held nodes.now) i result }
-{
-    let node = nodes[i];
-    let kind = entry::kind_of(node);
-    if kind < entry::CHOICE {
-        return joins::leaf_sets(node);
-    }
-    let last = part_at(nulls, firsts, afters, i - 1);
-    if kind == entry::REPEAT {
-        return joins::repeat_sets(i, node, last);
-    }
-    let left = part_at(nulls, firsts, afters, entry::left_of(node));
-    if kind == entry::CHOICE {
-        return joins::choice_sets(i, left, last);
-    }
-    joins::sequence_sets(i, left, last)
-}
-
-// The tables come to have first and after of the parts of the n nodes. What is handed out is the lowest conflict: the first that is
-// met, since a node comes after those below it.
-fn fill_sets(
-    nodes: &[u64; 512],
-    nulls: &[bool; 512],
-    firsts: &mut [[u64; 2]],
-    afters: &mut [[u64; 2]],
-    n: usize,
-) -> Found
-    requires n_in_bounds { (n ≤ length firsts.old) × (n ≤ length afters.old) }
-    requires listing { (e : Expr) × Listing nodes.now n e }
-    requires tells_nulls { TellsNulls (held nodes.now) nulls.now n }
-    ensures tells_sets { TellsSets First (held nodes.now) firsts.new n }
-    ensures tells_sets_2 { TellsSets After (held nodes.now) afters.new n }
-    ensures lowest { (e : Expr) → Listing nodes.now n e → Lowest (ConflictAt 0 e) result }
-{
-    let mut found = conflict::nothing();
-    let last = n - 1;
-    let mut i = 0;
-    while i <= last {
-        let own = sets_at(nodes, nulls, firsts, afters, i);
-        let first = own.first;
-        let after = own.after;
-        firsts[i] = first;
-        afters[i] = after;
-        let here = own.conflict;
-        if conflict::is_one(here) & !conflict::is_one(found) {
-            found = here;
+impl Known<'_> {
+    // What is known of the part of node j.
+    fn part(&self, j: usize) -> PartSets
+        requires j_bound { j < 512 }
+        requires j_in_bounds { (j < length self.now.firsts.now) × (j < length self.now.afters.now) }
+        ensures { ReadAt self.now.procedure.now.nulls self.now.firsts.now self.now.afters.now j result }
+    {
+        PartSets {
+            null: self.procedure.nulls[j],
+            first: self.firsts[j],
+            after: self.afters[j],
         }
-        i += 1;
+    }
+
+    // What is worked out of node i, where the nodes below it are known.
+    #[tactic(auto, using(crate::proofs::Standing::by_kind))]
+    fn node(&self, i: usize) -> NodeSets
+        requires i_in_bounds { (i ≤ length self.now.firsts.now) × (i ≤ length self.now.afters.now) }
+        requires one_of { OneOf self.now.procedure.now.nodes i }
+        requires tells_nulls { TellsNulls (held self.now.procedure.now.nodes) self.now.procedure.now.nulls i }
+        requires tells_firsts { TellsSets First (held self.now.procedure.now.nodes) self.now.firsts.now i }
+        requires tells_afters { TellsSets After (held self.now.procedure.now.nodes) self.now.afters.now i }
+        ensures { WorkedAt (held self.now.procedure.now.nodes) i result }
+    {
+        match self.procedure.nodes[i] {
+            Node::Empty => NodeSets::of_empty(),
+            Node::Event(code) => NodeSets::of_event(code),
+            Node::Choice { left, .. } => {
+                NodeSets::of_choice(self.part(usize::from(left)), self.part(i - 1))
+            }
+            Node::Sequence { left, .. } => {
+                NodeSets::of_sequence(self.part(usize::from(left)), self.part(i - 1))
+            }
+            Node::Repeat { lower, upper, .. } => {
+                NodeSets::of_repeat(lower, upper, self.part(i - 1))
+            }
+        }
+    }
+
+    // The lowest conflict of node i itself, where the nodes below it are known. Apart from `node`, since a conflict moved along with the sets
+    // of every node takes more than half as many instructions again.
+    #[tactic(auto, using(crate::proofs::Standing::by_kind))]
+    fn conflict(&self, i: usize) -> Option<Conflict>
+        requires i_in_bounds { (i ≤ length self.now.firsts.now) × (i ≤ length self.now.afters.now) }
+        requires one_of { OneOf self.now.procedure.now.nodes i }
+        requires tells_nulls { TellsNulls (held self.now.procedure.now.nodes) self.now.procedure.now.nulls i }
+        requires tells_firsts { TellsSets First (held self.now.procedure.now.nodes) self.now.firsts.now i }
+        requires tells_afters { TellsSets After (held self.now.procedure.now.nodes) self.now.afters.now i }
+        ensures { ClashAt (held self.now.procedure.now.nodes) i result }
+    {
+        match self.procedure.nodes[i] {
+            Node::Empty | Node::Event(_) => None,
+            Node::Choice { left, .. } => {
+                Conflict::of_choice(i, self.part(usize::from(left)), self.part(i - 1))
+            }
+            Node::Sequence { left, .. } => {
+                Conflict::of_sequence(i, self.part(usize::from(left)), self.part(i - 1))
+            }
+            Node::Repeat { upper, .. } => Conflict::of_repeat(i, upper, self.part(i - 1)),
+        }
+    }
+}
+
+// The tables come to have first and after of the parts of the procedure. What is handed out is the lowest conflict: the first that is
+// met, since a node comes after those below it.
+fn fill_sets(procedure: &Procedure, firsts: &mut [Codes], afters: &mut [Codes]) -> Option<Conflict>
+    requires n_in_bounds { (procedure.now.count ≤ length firsts.old) × (procedure.now.count ≤ length afters.old) }
+    requires listing { (e : Expr) × Listing procedure.now.nodes procedure.now.count e }
+    requires tells_nulls { TellsNulls (held procedure.now.nodes) procedure.now.nulls procedure.now.count }
+    ensures tells_firsts { TellsSets First (held procedure.now.nodes) firsts.new procedure.now.count }
+    ensures tells_afters { TellsSets After (held procedure.now.nodes) afters.new procedure.now.count }
+    ensures lowest { (e : Expr) → Listing procedure.now.nodes procedure.now.count e → Lowest (ConflictAt 0 e) result }
+{
+    let mut found = None;
+    for i in 0..procedure.count {
+        let known = Known {
+            procedure,
+            firsts,
+            afters,
+        };
+        let own = known.node(i);
+        // At a node without a conflict, which most are, nothing is moved.
+        if let Some(conflict) = known.conflict(i) {
+            found = found.or(Some(conflict));
+        }
+        firsts[i] = own.first;
+        afters[i] = own.after;
     }
     found
 }
 
-// The lowest conflict. The table comes to have first of the parts of the n nodes; after of the parts is not kept.
-pub fn lowest_conflict(
-    nodes: &[u64; 512],
-    nulls: &[bool; 512],
-    firsts: &mut [[u64; 2]],
-    n: usize,
-) -> Found
-    requires n_in_bounds { n ≤ length firsts.old }
-    requires listing { (e : Expr) × Listing nodes.now n e }
-    requires tells_nulls { TellsNulls (held nodes.now) nulls.now n }
-    ensures tells_sets { TellsSets First (held nodes.now) firsts.new n }
-    ensures lowest { (e : Expr) → Listing nodes.now n e → Lowest (ConflictAt 0 e) result }
+// The lowest conflict. The table comes to have first of the parts of the procedure; after of the parts is not kept.
+pub fn lowest_conflict(procedure: &Procedure, firsts: &mut [Codes]) -> Option<Conflict>
+    requires n_in_bounds { procedure.now.count ≤ length firsts.old }
+    requires listing { (e : Expr) × Listing procedure.now.nodes procedure.now.count e }
+    requires tells_nulls { TellsNulls (held procedure.now.nodes) procedure.now.nulls procedure.now.count }
+    ensures tells_sets { TellsSets First (held procedure.now.nodes) firsts.new procedure.now.count }
+    ensures lowest { (e : Expr) → Listing procedure.now.nodes procedure.now.count e → Lowest (ConflictAt 0 e) result }
 {
-    let mut afters = [[0u64; 2]; 512];
-    fill_sets(nodes, nulls, firsts, &mut afters, n)
+    let mut afters = [Codes::none(); MOST_NODES];
+    fill_sets(procedure, firsts, &mut afters)
 }

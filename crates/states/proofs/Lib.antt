@@ -3,5 +3,5 @@ mod Listed
 pub mod Readiness
 pub mod ReachedBytes
 mod RightCounts
-mod Standing
+mod Stands
 mod StateBytes

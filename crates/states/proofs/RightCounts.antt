@@ -1,14 +1,15 @@
 -- The counters are those of a place exactly if each repeat's counter fits. Assumes nothing.
-use mathlib.Core.Path.{◌≡◌, refl, sym, ap, ap₂, subst, ◌∙◌}
+use mathlib.Core.Path.{◌≡◌, sym, ap, ap₂, subst, ◌∙◌}
 use mathlib.Core.Logic.Iff
 use mathlib.Core.Logic.{◌↔◌, ◌⊎◌, inl, inr, ⊎_elim}
 use mathlib.Core.Bool.{Bool, true, false}
 use mathlib.Core.List.{List}
 use Prim.Native.Nat.{ℕ, zero, suc, ◌+◌, ◌-◌, ◌≤◌, ◌<◌}
 use native.Mathlib.Omega.{arith}
-use borrow.Author.Tests.{eqb-true, eqb-false, leb-true, leb-false}
-use lib.Dec.{eqb, leb}
-use lib.ListN.{length, get_or, get_or-eq_default}
+use lib.ListN.{length, get_or, get_or-eq_default, drop}
+use Rattle.std.specs.Bool.{MatchBool}
+use Rattle.std.specs.List.{AllWithin, HoldsAt}
+use Rattle.std.proofs.lemmas.List.{get_or-drop}
 use Rattle.meaning.specs.Expr.{Expr, empty, event, choice, sequence, repeat, Upper, Within, size, root}
 use Rattle.meaning.specs.Node.{Stands, repeats_below}
 use Rattle.meaning.specs.Normal.{nullable, low}
@@ -19,7 +20,7 @@ use Rattle.meaning.proofs.Expressions.Parts.{root-size}
 use Rattle.meaning.proofs.Places.Marks.{node_from, node_below}
 use Rattle.meaning.proofs.File.Ranks.{repeats_past}
 use Rattle.meaning.proofs.State.States.{stop_within, most_within, most-stop}
-use Rattle.procedure.specs.Entry.{held, kind_of}
+use Rattle.procedure.specs.Entry.{Nodes, held, kind_of}
 use Rattle.procedure.specs.Listing.{TellsNulls, TellsStarts}
 use Rattle.procedure.specs.Tests.{Decides}
 use Rattle.procedure.proofs.Empties.{null_of_part}
@@ -83,40 +84,18 @@ module _ {s m y p c : ℕ} where
       back (apart (inr w) e) = absurd (omega arith)
       back (around a b h k) = (h, k)
 
-  pub not_begun : s ≤ p → p < y → c ≡ 0 → ¬ Fits s m y p c
-  not_begun a b e f = omega (arith, ((fits_around a b).0 f).0)
-
-  pub around_test : (most : ℕ) → most ≡ m → s ≤ p → p < y → ¬ (c ≡ 0) → Decides (Fits s m y p c) (leb c most)
-  around_test most told a b h = go (leb c most) refl
-    where
-      go : (b : Bool) → leb c most ≡ b → Decides (Fits s m y p c) b
-      go true e = let l = leb-true c most e in around a b (omega arith) (omega arith)
-      go false e = let l = leb-false c most e in λ f. omega (arith, ((fits_around a b).0 f).1)
-
-pub apart_test : (nodes starts : List ℕ) (nulls : List Bool) (y p c : ℕ) → (p < get_or starts y 0) ⊎ (y ≤ p)
-    → Decides (FitsAt nodes starts nulls y p c) (eqb c 0)
-apart_test nodes starts nulls y p c o = go (eqb c 0) refl
-  where
-    go : (b : Bool) → eqb c 0 ≡ b → Decides (FitsAt nodes starts nulls y p c) b
-    go true e = apart o (eqb-true c 0 e)
-    go false e = λ f. eqb-false c 0 e ((fits_apart o).0 f)
-
 -- ---- counters that are 0
 
--- the counters from rank k on and below rank j are 0
-abbrev pub ClearBelow : List ℕ → ℕ → ℕ → Type 0
-ClearBelow counts k j = (i : ℕ) → k ≤ i → i < j → get_or counts i 0 ≡ 0
-
-pub clear_none : (counts : List ℕ) (k : ℕ) → ClearBelow counts k k
-clear_none counts k i a b = absurd (omega arith)
-
-pub clear_more : (counts : List ℕ) (k j : ℕ) → ClearBelow counts k j → get_or counts j 0 ≡ 0 → ClearBelow counts k (j + 1)
-clear_more counts k j f h i a b =
-    ⊎_elim (λ l. f i a l) (λ l. let same : j ≡ i = omega arith in subst (λ (y : ℕ). get_or counts y 0 ≡ 0) same h) (below_or_from i j)
-
--- past the end of the list every counter is 0
-pub clear_all : (counts : List ℕ) (k j : ℕ) → length counts ≡ 32 → 32 ≤ j → ClearBelow counts k j → ClearFrom counts k
-clear_all counts k j long h f i a = ⊎_elim (λ l. f i a l) (λ l. get_or-eq_default counts 0 {n = i} (omega arith)) (below_or_from i j)
+-- the counters from rank k on are 0, or one of them is not
+pub clear_tested : (counts : List ℕ) (k : ℕ) (b : Bool) → MatchBool b (AllWithin (λ x. x ≡ 0) (drop k counts) 0 (length (drop k counts)))
+    ((j : ℕ) × (j < length (drop k counts)) × HoldsAt (λ x. ¬ (x ≡ 0)) (drop k counts) j)
+    → Decides (ClearFrom counts k) b
+clear_tested counts k true h = λ j l.
+    let at : k + (j - k) ≡ j = omega arith in
+    subst (λ (i : ℕ). get_or counts i 0 ≡ 0) at
+    (sym (get_or-drop k counts (j - k) 0)
+    ∙ ⊎_elim (λ m. h (j - k) 0 (omega arith) m) (λ m. get_or-eq_default (drop k counts) 0 m) (below_or_from (j - k) (length (drop k counts))))
+clear_tested counts k false h = λ z. h.2 0 (get_or-drop k counts h.0 0 ∙ z (k + h.0) (omega arith))
 
 -- ---- a counter and the blocks begun
 
@@ -127,7 +106,7 @@ counter_blocks lower (suc j) upper h k = (j, most_within lower (suc j) upper k, 
 
 -- ---- a part's counters
 
-module _ (nodes starts : List ℕ) (nulls : List Bool) (counts : List ℕ) (n p : ℕ) (begun : TellsStarts (held nodes) starts n) (empties : TellsNulls (held nodes) nulls n) where
+module _ (nodes : Nodes) (starts : List ℕ) (nulls : List Bool) (counts : List ℕ) (n p : ℕ) (begun : TellsStarts (held nodes) starts n) (empties : TellsNulls (held nodes) nulls n) where
   -- where node y is a repeat, its counter fits
   abbrev Right : ℕ → Type 0
   Right y = kind_of (held nodes y) ≡ 4 → FitsAt nodes starts nulls y p (get_or counts (repeats_below (held nodes) y) 0)

@@ -1,18 +1,17 @@
--- Numbers in two bytes each: what is put there is there, and bytes and numbers determine each other. Assumes nothing.
+-- Numbers in two bytes each: bytes and numbers determine each other. And a place and the number that stands for it. Assumes nothing.
 use mathlib.Core.Path.{◌≡◌, refl, sym, ap, ◌∙◌, subst}
 use mathlib.Core.List.{List, [], ◌∷◌, head-eq_of_cons-eq, tail-eq_of_cons-eq}
 use mathlib.Core.Logic.{◌⊎◌, inl, inr}
-use Prim.Native.Nat.{ℕ, zero, suc, ◌+◌, ◌*◌, ◌/◌, ◌%◌, ◌≤◌, ◌<◌}
+use Prim.Native.Nat.{ℕ, zero, suc, ◌+◌, ◌-◌, ◌*◌, ◌/◌, ◌%◌, ◌≤◌, ◌<◌}
 use native.Mathlib.Decide.{dec_lt}
 use native.Mathlib.Omega.{arith}
-use borrow.Author.Count.{below_more}
-use lib.ListN.{length, get_or, set, length-set}
-use lib.Seq.{get_or-set_same, get_or-set_other}
+use lib.ListN.{length, get_or}
+use Rattle.std.specs.Prelude.{Option, Some, None}
+use Rattle.std.specs.Option.{SomeIff}
 use Rattle.meaning.specs.Bytes.{byte_at, two_at, in_twos}
 use Rattle.meaning.specs.Theory.Counts.{Narrow}
 use Rattle.meaning.proofs.General.Twos.{narrow_each, narrow_unique}
-use Rattle.numbers.specs.Put.{put_two}
-use Rattle.states.specs.StateBytes.{Decoded}
+use Rattle.states.specs.StateBytes.{Decoded, place_of}
 
 -- a number is below another, or it is not
 pub below_or_from : (k m : ℕ) → (k < m) ⊎ (m ≤ k)
@@ -37,25 +36,6 @@ two_of f i x small e =
     let a = small i in
     let b = small (i + 1) in
     (omega arith, omega arith)
-
-put_there : (f : List ℕ) (i x : ℕ) → i + 1 < length f → Two (put_two f i x) i x
-put_there f i x h =
-    let long = length-set f i (x % 256) in (
-      get_or-set_other (set f i (x % 256)) (i + 1) i (x / 256 % 256) 0 (omega arith) ∙ get_or-set_same f i (x % 256) 0 (omega arith),
-      get_or-set_same (set f i (x % 256)) (i + 1) (x / 256 % 256) 0 (omega arith),
-    )
-
-put_beside : (f : List ℕ) (i x k : ℕ) → k < i → byte_at (put_two f i x) k ≡ byte_at f k
-put_beside f i x k h =
-    get_or-set_other (set f i (x % 256)) (i + 1) k (x / 256 % 256) 0 (omega arith) ∙ get_or-set_other f i k (x % 256) 0 (omega arith)
-
--- a number is put behind the first m
-pub filled_more : (f numbers : List ℕ) (m at x : ℕ) → at ≡ 2 * m → at + 1 < length f → x ≡ get_or numbers m 0 → Filled f numbers m
-    → Filled (put_two f at x) numbers (m + 1)
-filled_more f numbers m at x e fit same w =
-    below_more (λ (k : ℕ). Two (put_two f at x) (2 * k) (get_or numbers k 0)) m
-    (λ k h. (put_beside f at x (2 * k) (omega arith) ∙ (w k h).0, put_beside f at x (2 * k + 1) (omega arith) ∙ (w k h).1))
-    (subst (Two (put_two f at x) (2 * m)) same (subst (λ (i : ℕ). Two (put_two f at x) i x) e (put_there f at x fit)))
 
 -- bytes that hold all the numbers, and nothing more, are determined
 pub filled_twos : (f numbers : List ℕ) → length f ≡ 2 * length numbers → Filled f numbers (length numbers) → f ≡ in_twos numbers
@@ -91,12 +71,6 @@ decoded_unique {bytes} {node} {counts} w m d h e =
 abbrev pub Read : List ℕ → List ℕ → ℕ → Type 0
 Read bytes counts m = (k : ℕ) → k < m → get_or counts k 0 ≡ two_at bytes (2 * k + 2)
 
-pub read_more : (bytes counts : List ℕ) (m v : ℕ) → m < length counts → v ≡ two_at bytes (2 * m + 2) → Read bytes counts m → Read bytes (set counts m v) (m + 1)
-read_more bytes counts m v h e w =
-    below_more (λ (k : ℕ). get_or (set counts m v) k 0 ≡ two_at bytes (2 * k + 2)) m
-    (λ k l. get_or-set_other counts m k v 0 (omega arith) ∙ w k l)
-    (get_or-set_same counts m v 0 h ∙ e)
-
 module _ (bytes counts : List ℕ) (small : (k : ℕ) → byte_at bytes k < 256) (long : length counts ≡ 32) (w : Read bytes counts 32) where
   read_filled : (node : ℕ) → node ≡ two_at bytes 0 → Filled bytes (node ∷ counts) 33
   read_filled node e zero h = two_of bytes 0 node small e
@@ -113,3 +87,10 @@ module _ (bytes counts : List ℕ) (small : (k : ℕ) → byte_at bytes k < 256)
     );
     long = long;
   }
+
+-- ---- a place
+
+-- a number is the place of what it leaves with 1 taken from it, or of none where it is 0
+pub place_back : (a : Option ℕ) (x : ℕ) → SomeIff a (1 ≤ x) (x - 1) → place_of a ≡ x
+place_back None x h = omega arith
+place_back (Some p) x h = omega arith

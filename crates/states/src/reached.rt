@@ -1,143 +1,81 @@
 // Whether some run can stand where a state says: at the start, or just after an event with counters that are right for its node.
-ghost use Rattle.std.specs.Prelude.{◌≡◌, ℕ, ◌≤◌, ◌<◌, length};
+ghost use Rattle.std.specs.Prelude.{◌≡◌, ◌≤◌, ◌<◌};
 ghost use Rattle.meaning.specs.Expr.{Expr};
-ghost use Rattle.procedure.specs.Listing.{Tables};
+ghost use Rattle.procedure.specs.Entry.{held, kind_of};
+ghost use Rattle.procedure.specs.Opening.{IsOf};
 ghost use Rattle.procedure.specs.Tests.{Decides};
-ghost use Rattle.states.specs.Standing.{FitsAt, AllFit, ClearFrom, CanStand, ReadOf};
+ghost use Rattle.states.specs.Standing.{AllFit, CanStand, ClearFrom, FitsAt, ReadOf};
+ghost use Rattle.states.specs.StateBytes.{place_of};
 
-use crate::bytes;
-use procedure::{bounds, entry};
-
-// What a state's bytes say.
-#[derive(Clone, Copy)]
-pub enum Read {
-    // Runs reach the state, with this node: 0 at the start, or else 1 + the event node.
-    Reached(usize),
-    // There are not 66 bytes, or no run reaches the state.
-    Unreached,
-}
+use crate::standing::{STATE_BYTES, Standing};
+use procedure::bounds::Bounds;
+use procedure::node::Node;
+use procedure::{MOST_REPEATS, Procedure};
 
 // Whether c is what the counter of the repeat at node y may be where event node p is reached.
-fn fits(
-    nodes: &[u64; 512],
-    starts: &[u16; 512],
-    nulls: &[bool; 512],
-    y: usize,
-    p: usize,
-    c: u16,
-) -> bool
-    requires { (1 ≤ y) × (y < 512) }
-    ensures { Decides (FitsAt nodes.now starts.now nulls.now y p c) result }
+fn fits(procedure: &Procedure, y: usize, p: usize, c: u16) -> bool
+    requires y_in_bounds { (1 ≤ y) × (y < 512) }
+    requires is_repeat { kind_of (held procedure.now.nodes y) ≡ 4 }
+    ensures { Decides (FitsAt procedure.now.nodes procedure.now.starts procedure.now.nulls y p c) result }
 {
-    if p < numbers::wide(starts[y]) {
+    let Node::Repeat { lower, upper, .. } = procedure.nodes[y] else {
+        unreachable!();
+    };
+    let around = usize::from(procedure.starts[y]) <= p && p < y;
+    if !around {
         return c == 0;
     }
-    if y <= p {
-        return c == 0;
-    }
-    if c == 0 {
-        return false;
-    }
-    c <= bounds::cap(nodes[y], nulls[y - 1])
+    let bounds = Bounds::normal(lower, upper, procedure.nulls[y - 1]);
+    1 <= c && c <= bounds.cap()
 }
 
-// Whether it is so at each of the r repeats.
-fn all_fit(
-    nodes: &[u64; 512],
-    starts: &[u16; 512],
-    nulls: &[bool; 512],
-    repeats: &[u16; 32],
-    r: usize,
-    counts: &[u16; 32],
-    p: usize,
-) -> bool
-    requires { (n : ℕ) × (e : Expr) × Tables nodes.now starts.now nulls.now repeats.now n r e }
-    ensures { Decides (AllFit nodes.now starts.now nulls.now repeats.now counts.now p r) result }
+// Whether it is so at each of the repeats.
+fn all_fit(procedure: &Procedure, counts: &[u16; MOST_REPEATS], p: usize) -> bool
+    requires { (e : Expr) × IsOf procedure.now e }
+    ensures { Decides (AllFit procedure.now.nodes procedure.now.starts procedure.now.nulls procedure.now.repeats counts.now p procedure.now.repeat_count) result }
 {
-    let mut k = 0;
-    while k < r {
-        if !fits(
-            nodes,
-            starts,
-            nulls,
-            numbers::wide(repeats[k]),
-            p,
-            counts[k],
-        ) {
+    // No chain with `all`: what `fits` asks for is known of each repeat only with its rank.
+    for rank in 0..procedure.repeat_count {
+        let repeat = usize::from(procedure.repeats[rank]);
+        if !fits(procedure, repeat, p, counts[rank]) {
             return false;
         }
-        k += 1;
     }
     true
 }
 
-// Whether the counters from rank k on are 0.
-fn clear_from(counts: &[u16; 32], k: usize) -> bool
-    requires { length counts.now ≡ 32 }
-    ensures { Decides (ClearFrom counts.now k) result }
+// Whether the counters from a rank on are 0.
+fn clear_from(counts: &[u16; MOST_REPEATS], rank: usize) -> bool
+    requires { rank ≤ 32 }
+    ensures { Decides (ClearFrom counts.now rank) result }
 {
-    let mut j = k;
-    while j < bytes::COUNTERS {
-        if counts[j] != 0 {
-            return false;
-        }
-        j += 1;
-    }
-    true
+    counts[rank..].iter().all(|&count| count == 0)
 }
 
-// Whether a run of the n nodes can stand at the node with the counters.
-pub fn is_reached(
-    nodes: &[u64; 512],
-    starts: &[u16; 512],
-    nulls: &[bool; 512],
-    repeats: &[u16; 32],
-    n: usize,
-    r: usize,
-    node: usize,
-    counts: &[u16; 32],
-) -> bool
-    requires tables { (e : Expr) × Tables nodes.now starts.now nulls.now repeats.now n r e }
-    requires counts_len { length counts.now ≡ 32 }
-    ensures { (e : Expr) → Tables nodes.now starts.now nulls.now repeats.now n r e → Decides (CanStand e node counts.now) result }
+// Whether a run of the procedure can stand there.
+pub fn is_reached(procedure: &Procedure, standing: &Standing) -> bool
+    requires { (e : Expr) × IsOf procedure.now e }
+    ensures { (e : Expr) → IsOf procedure.now e → Decides (CanStand e (place_of standing.now.reached) standing.now.counts) result }
 {
-    if node == 0 {
-        return clear_from(counts, 0);
-    }
-    if n < node {
+    let Some(p) = standing.reached else {
+        return clear_from(&standing.counts, 0);
+    };
+    if procedure.count <= p {
         return false;
     }
-    let p = node - 1;
-    if entry::kind_of(nodes[p]) != entry::EVENT {
-        return false;
-    }
-    if !all_fit(nodes, starts, nulls, repeats, r, counts, p) {
-        return false;
-    }
-    clear_from(counts, r)
+    matches!(procedure.nodes[p], Node::Event(_))
+        && all_fit(procedure, &standing.counts, p)
+        && clear_from(&standing.counts, procedure.repeat_count)
 }
 
-// Where a run stands by the bytes of a state. The counters go into those lent.
-pub fn read_state(
-    nodes: &[u64; 512],
-    starts: &[u16; 512],
-    nulls: &[bool; 512],
-    repeats: &[u16; 32],
-    n: usize,
-    r: usize,
-    bytes: &[u8],
-    counts: &mut [u16; 32],
-) -> Read
-    requires tables { (e : Expr) × Tables nodes.now starts.now nulls.now repeats.now n r e }
-    requires counts_len { length counts.old ≡ 32 }
-    ensures { (e : Expr) → Tables nodes.now starts.now nulls.now repeats.now n r e → ReadOf e bytes.now counts.new result }
+// Where a run stands by the bytes of a state; none where there are not 66, or no run reaches the state.
+pub fn read_state(procedure: &Procedure, bytes: &[u8]) -> Option<Standing>
+    requires { (e : Expr) × IsOf procedure.now e }
+    ensures { (e : Expr) → IsOf procedure.now e → ReadOf e bytes.now result }
 {
-    if bytes.len() != bytes::STATE_BYTES {
-        return Read::Unreached;
+    if bytes.len() != STATE_BYTES {
+        return None;
     }
-    let node = bytes::decode(bytes, counts);
-    if !is_reached(nodes, starts, nulls, repeats, n, r, node, counts) {
-        return Read::Unreached;
-    }
-    Read::Reached(node)
+    let standing = Standing::decode(bytes);
+    is_reached(procedure, &standing).then_some(standing)
 }

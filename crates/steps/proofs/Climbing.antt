@@ -10,6 +10,7 @@ use borrow.Author.Tests.{le-leb, lt-leb}
 use lib.Dec.{eqb, leb}
 use lib.ListN.{length, get_or, set, length-set}
 use lib.Seq.{get_or-set_same, get_or-set_other}
+use Rattle.plan.specs.Link.{Links}
 use Rattle.meaning.specs.Expr.{Expr, empty, event, choice, sequence, repeat, Upper, upto, endless, size, root}
 use Rattle.meaning.specs.Node.{Node, node, Stands, bound, repeats_below}
 use Rattle.meaning.specs.Normal.{nullable, low}
@@ -18,7 +19,7 @@ use Rattle.meaning.specs.Theory.Places.{Place, node_of, CanStart}
 use Rattle.meaning.specs.Theory.Ways.{turns, ends, stuck, another, way}
 use Rattle.meaning.proofs.General.Facts.{so_leb}
 use Rattle.meaning.proofs.Expressions.Parts.{root-size}
-use Rattle.procedure.specs.Entry.{held, kind_of}
+use Rattle.procedure.specs.Entry.{Nodes, held, kind_of}
 use Rattle.steps.specs.declared.climb.Look.TheVariants.{Turns, On, Stops}
 use Rattle.steps.specs.declared.climb.Turn.{Turn}
 use Rattle.steps.specs.declared.climb.Turn.TheVariants.{At, Stuck}
@@ -54,7 +55,7 @@ module _ (k lower c : ℕ) where
 
 -- ---- the outcomes
 
-module _ (nodes starts : List ℕ) (nulls : List Bool) (plan counts : List ℕ) (n q : ℕ) where
+module _ (nodes : Nodes) (starts : List ℕ) (nulls : List Bool) (plan : Links) (counts : List ℕ) (n q : ℕ) where
   -- where the way up from a place of the part leads, whose next node above is a
   pub data Outcome (s k : ℕ) (e : Expr) (p : Place e) (a : ℕ) (r : Turn) : Type 0 where
     turned : (x : ℕ) (t : Place e) → r ≡ At x → way s e p q ≡ turns t → node_of s e t ≡ q
@@ -156,14 +157,14 @@ module _ (nodes starts : List ℕ) (nulls : List Bool) (plan counts : List ℕ) 
     in_repeat own (ended w c) go = go w c
     in_repeat own (halted w e) go = halted (rw w) e
 
-pub marks_done : {nodes plan : List ℕ} {x y : ℕ} {c z : List ℕ} → x ≤ y → MarksUp nodes plan x y c z → c ≡ z
+pub marks_done : {nodes : Nodes} {plan : Links} {x y : ℕ} {c z : List ℕ} → x ≤ y → MarksUp nodes plan x y c z → c ≡ z
 marks_done h (done l) = refl
 marks_done h (next l w) = absurd (omega arith)
 
 module _
-    (nodes starts : List ℕ)
+    (nodes : Nodes) (starts : List ℕ)
     (nulls : List Bool)
-    (plan counts : List ℕ)
+    (plan : Links) (counts : List ℕ)
     (n q : ℕ)
     (ranks : (i : ℕ) → i < n → rank_at plan i ≡ repeats_below (held nodes) i)
     (some : repeats_below (held nodes) n ≤ 32)

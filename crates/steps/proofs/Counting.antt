@@ -8,12 +8,13 @@ use native.Mathlib.Omega.{arith}
 use borrow.Author.Tests.{eq-eqb, ne_eqb}
 use lib.ListN.{length, get_or, set, length-set}
 use lib.Seq.{get_or-set_same, get_or-set_other}
+use Rattle.plan.specs.Link.{Links}
 use Rattle.meaning.specs.Expr.{Expr, empty, event, choice, sequence, repeat, Upper, upto, endless, size}
 use Rattle.meaning.specs.Node.{Stands, repeats_below}
 use Rattle.meaning.specs.Normal.{nullable, low}
 use Rattle.meaning.specs.State.{stop}
 use Rattle.meaning.specs.Theory.Places.{Place, node_of, CanStart}
-use Rattle.procedure.specs.Entry.{held, kind_of}
+use Rattle.procedure.specs.Entry.{Nodes, held, kind_of}
 use Rattle.plan.specs.Plan.{above_at, rank_at, Planned}
 use Rattle.meaning.proofs.File.Ranks.{below_rises, repeats_past}
 use Rattle.meaning.specs.Theory.Counts.{Clear, Held, repeats}
@@ -54,28 +55,28 @@ stop_first lower (upto n) k e = omega arith
 stop_first lower endless k e = omega arith
 
 -- the counters after the way from a place up to the part's root: d are the part's, and the way goes on from the node a above it
-pub record CountersEntered (nodes plan : List ℕ) (x a k : ℕ) (e : Expr) (t : Place e) (c z : List ℕ) : Type 0 where
+pub record CountersEntered (nodes : Nodes) (plan : Links) (x a k : ℕ) (e : Expr) (t : Place e) (c z : List ℕ) : Type 0 where
   pub now : List ℕ
   pub on : MarksUp nodes plan x a now z
   pub holds : Held now k e t
   pub beside : Beside c now k (repeats e)
   pub long : length now ≡ 32
 
-marks_next : {nodes plan : List ℕ} {x y : ℕ} {c z : List ℕ} → y < x → MarksUp nodes plan x y c z → MarksUp nodes plan x (above_at plan y) (marked nodes plan y c) z
+marks_next : {nodes : Nodes} {plan : Links} {x y : ℕ} {c z : List ℕ} → y < x → MarksUp nodes plan x y c z → MarksUp nodes plan x (above_at plan y) (marked nodes plan y c) z
 marks_next h (done l) = absurd (omega arith)
 marks_next h (next l w) = w
 
-marks_repeat : {nodes plan : List ℕ} {x y : ℕ} {c z : List ℕ} → y < x → kind_of (held nodes y) ≡ 4 → MarksUp nodes plan x y c z
+marks_repeat : {nodes : Nodes} {plan : Links} {x y : ℕ} {c z : List ℕ} → y < x → kind_of (held nodes y) ≡ 4 → MarksUp nodes plan x y c z
     → MarksUp nodes plan x (above_at plan y) (set c (rank_at plan y) 1) z
 marks_repeat {nodes} {plan} {x} {y} {c} {z} h k w =
     subst (λ (b : Bool). MarksUp nodes plan x (above_at plan y) (cond b (set c (rank_at plan y) 1) c) z) (eq-eqb (kind_of (held nodes y)) 4 k) (marks_next h w)
 
-marks_other : {nodes plan : List ℕ} {x y : ℕ} {c z : List ℕ} → y < x → (kind_of (held nodes y) ≡ 4 → ⊥) → MarksUp nodes plan x y c z
+marks_other : {nodes : Nodes} {plan : Links} {x y : ℕ} {c z : List ℕ} → y < x → (kind_of (held nodes y) ≡ 4 → ⊥) → MarksUp nodes plan x y c z
     → MarksUp nodes plan x (above_at plan y) c z
 marks_other {nodes} {plan} {x} {y} {c} {z} h k w =
     subst (λ (b : Bool). MarksUp nodes plan x (above_at plan y) (cond b (set c (rank_at plan y) 1) c) z) (ne_eqb (kind_of (held nodes y)) 4 k) (marks_next h w)
 
-module _ {nodes plan : List ℕ} {x a k : ℕ} (l r : Expr) {c z : List ℕ} where
+module _ {nodes : Nodes} {plan : Links} {x a k : ℕ} (l r : Expr) {c z : List ℕ} where
   -- one child is entered, and the counters of the other stay 0
   clear_right : {t : Place l} (w : CountersEntered nodes plan x a k l t c z) → Clear c k (repeats l + repeats r) → Clear w.now (k + repeats l) (repeats r)
   clear_right w clear j u v = w.beside j (inr u) ∙ clear j (omega arith) (omega arith)
@@ -89,7 +90,7 @@ module _ {nodes plan : List ℕ} {x a k : ℕ} (l r : Expr) {c z : List ℕ} whe
   beside_right : {t : Place r} (w : CountersEntered nodes plan x a (k + repeats l) r t c z) → Beside c w.now k (repeats l + repeats r)
   beside_right w j o = w.beside j (⊎_elim (λ u. inl (omega arith)) (λ u. inr (omega arith)) o)
 
-module _ (nodes plan : List ℕ) (n x : ℕ) (ranks : (i : ℕ) → i < n → rank_at plan i ≡ repeats_below (held nodes) i) (some : repeats_below (held nodes) n ≤ 32) where
+module _ (nodes : Nodes) (plan : Links) (n x : ℕ) (ranks : (i : ℕ) → i < n → rank_at plan i ≡ repeats_below (held nodes) i) (some : repeats_below (held nodes) n ≤ 32) where
   -- a repeat that stands in the nodes has its rank, which is below 32
   pub rank_of_repeat : (s : ℕ) (b : Expr) (lower : ℕ) (upper : Upper) → Stands (held nodes) s (repeat b lower upper) → s + size b < n
       → (rank_at plan (s + size b) ≡ repeats_below (held nodes) s + repeats b) × (repeats_below (held nodes) s + repeats b < 32)

@@ -1,5 +1,4 @@
 -- The laws that belong to no one function.
-mod Tests
 mod Counting
 mod Climbing
 mod Stepping

@@ -7,11 +7,12 @@ use Prim.Native.Nat.{ℕ, ◌-◌, ◌≤◌, ◌<◌}
 use native.Mathlib.Omega.{arith}
 use lib.Dec.{eqb}
 use lib.ListN.{length, set, length-set}
+use Rattle.plan.specs.Link.{Links}
 use Rattle.meaning.specs.Expr.{Expr, root}
 use Rattle.meaning.specs.Theory.Places.{Place, node_of}
 use Rattle.meaning.specs.Theory.Ways.{Way, turns, ends, stuck, way}
 use Rattle.meaning.proofs.Expressions.Parts.{root-size}
-use Rattle.procedure.specs.Entry.{held, kind_of}
+use Rattle.procedure.specs.Entry.{Nodes, held, kind_of}
 use Rattle.steps.specs.declared.climb.Turn.{Turn}
 use Rattle.steps.specs.declared.climb.Turn.TheVariants.{At, Ends, Stuck}
 use Rattle.procedure.proofs.Orders.{start_of_part}
@@ -30,34 +31,40 @@ long_if : (b : Bool) (x y : List ℕ) → length x ≡ length y → length (cond
 long_if true x y e = e
 long_if false x y e = refl
 
-marks_long : {nodes plan : List ℕ} {x y : ℕ} {c d : List ℕ} → MarksUp nodes plan x y c d → length d ≡ length c
+marks_long : {nodes : Nodes} {plan : Links} {x y : ℕ} {c d : List ℕ} → MarksUp nodes plan x y c d → length d ≡ length c
 marks_long (done h) = refl
 marks_long {nodes} {plan} {x} {y} {c} {d} (next h w) =
     marks_long w ∙ long_if (eqb (kind_of (held nodes y)) 4) (set c (rank_at plan y) 1) c (length-set c (rank_at plan y) 1)
 
-turned_long : (nodes begun : List ℕ) (nulls : List Bool) (plan : List ℕ) (x q : ℕ) (c d : List ℕ) → TurnedTo nodes begun nulls plan x q c d → length d ≡ length c
+turned_long : (nodes : Nodes) (begun : List ℕ) (nulls : List Bool) (plan : Links) (x q : ℕ) (c d : List ℕ) → TurnedTo nodes begun nulls plan x q c d → length d ≡ length c
 turned_long nodes begun nulls plan x q c d w =
     marks_long w.2 ∙ long_if (eqb (kind_of (held nodes x)) 4) _ w.0 (length-set w.0 (rank_at plan x) _) ∙ w.1.long
 
 -- ---- where the way turns
 
-pub climbs_at : {nodes begun : List ℕ} {nulls : List Bool} {plan counts : List ℕ} {n q y x : ℕ} {r : Turn} → Rises nodes begun plan n → 1 ≤ y → Climbs nodes begun nulls plan counts n q y r → r ≡ At x
+climbs_at : {nodes : Nodes} {begun : List ℕ} {nulls : List Bool} {plan : Links} {counts : List ℕ} {n q y x : ℕ} {r : Turn} → Rises nodes begun plan n → 1 ≤ y → Climbs nodes begun nulls plan counts n q y r → r ≡ At x
     → (1 ≤ x) × (x < n)
 climbs_at up h (past l) e = absurd (let z : ◌≡◌ {A = ℕ} 0 1 = cc in omega arith)
 climbs_at {x = x} up h (turns {x = y} l f) e = let same : y ≡ x = cc in (omega arith, omega arith)
 climbs_at up h (stops l f) e = absurd (let z : ◌≡◌ {A = ℕ} 0 1 = cc in omega arith)
 climbs_at up h (on {x = y} l f w) e = climbs_at up (omega (arith, (up y l).up)) w e
 
+-- a turn is at a node of the plan, and not at the first
+pub turns_within : {nodes : Nodes} {begun : List ℕ} {nulls : List Bool} {plan : Links} {counts : List ℕ} {n q v x : ℕ} {r : Turn} → Rises nodes begun plan n → v < n
+    → Climbs nodes begun nulls plan counts n q (above_at plan v) r → r ≡ At x
+    → (1 ≤ x) × (x < n)
+turns_within {v = v} up h w f = climbs_at up (omega (arith, (up v h).up)) w f
+
 -- ---- the way of the whole
 
-data Finish (nodes begun : List ℕ) (nulls : List Bool) (plan counts : List ℕ) (q : ℕ) (e : Expr) (p : Place e) (r : Turn) : Type 0 where
+data Finish (nodes : Nodes) (begun : List ℕ) (nulls : List Bool) (plan : Links) (counts : List ℕ) (q : ℕ) (e : Expr) (p : Place e) (r : Turn) : Type 0 where
   goes : (x : ℕ) (t : Place e) → r ≡ At x → way 0 e p q ≡ turns t → node_of 0 e t ≡ q
       → ((z : List ℕ) → TurnedTo nodes begun nulls plan x q counts z → Marked z e t)
       → Finish nodes begun nulls plan counts q e p r
   finishes : r ≡ Ends → way 0 e p q ≡ ends → Finish nodes begun nulls plan counts q e p r
   halts : r ≡ Stuck → way 0 e p q ≡ stuck → Finish nodes begun nulls plan counts q e p r
 
-top_ends : {nodes begun : List ℕ} {nulls : List Bool} {plan counts : List ℕ} {n q x : ℕ} {r : Turn} → n ≤ x → Climbs nodes begun nulls plan counts n q x r → r ≡ Ends
+top_ends : {nodes : Nodes} {begun : List ℕ} {nulls : List Bool} {plan : Links} {counts : List ℕ} {n q x : ℕ} {r : Turn} → n ≤ x → Climbs nodes begun nulls plan counts n q x r → r ≡ Ends
 top_ends h (past l) = refl
 top_ends h (turns l f) = absurd (omega arith)
 top_ends h (stops l f) = absurd (omega arith)
@@ -71,7 +78,7 @@ marked_after counts z e p t m l w = record {
   long = l ∙ m.long;
 }
 
-finish : (nodes begun : List ℕ) (nulls : List Bool) (plan counts : List ℕ) (n q : ℕ) (e : Expr) (p : Place e) (v : ℕ) (r : Turn) → Plans nodes begun nulls plan n e → Target (held nodes) n q
+finish : (nodes : Nodes) (begun : List ℕ) (nulls : List Bool) (plan : Links) (counts : List ℕ) (n q : ℕ) (e : Expr) (p : Place e) (v : ℕ) (r : Turn) → Plans nodes begun nulls plan n e → Target (held nodes) n q
     → node_of 0 e p ≡ v → Marked counts e p → Climbs nodes begun nulls plan counts n q (above_at plan v) r
     → Finish nodes begun nulls plan counts q e p r
 finish nodes begun nulls plan counts n q e p v r pl target here m w =
@@ -95,18 +102,12 @@ not_turns_stuck e f = let z : ◌≡◌ {A = ℕ} 0 1 = cc in omega arith
 not_ends : {A : Type 0} {w : Way A} → w ≡ stuck → w ≡ ends → ⊥
 not_ends e f = let z : ◌≡◌ {A = ℕ} 0 1 = cc in omega arith
 
-pub at_not_ends : {r : Turn} {x : ℕ} → r ≡ At x → r ≡ Ends → ⊥
-at_not_ends e f = let z : ◌≡◌ {A = ℕ} 0 1 = cc in omega arith
-
-pub stuck_not_ends : {r : Turn} → r ≡ Stuck → r ≡ Ends → ⊥
-stuck_not_ends e f = let z : ◌≡◌ {A = ℕ} 0 1 = cc in omega arith
-
 -- ---- the answers of a step
 
 module _
-    (nodes begun : List ℕ)
+    (nodes : Nodes) (begun : List ℕ)
     (nulls : List Bool)
-    (plan counts : List ℕ)
+    (plan : Links) (counts : List ℕ)
     (n q v : ℕ)
     (r : Turn)
     (e : Expr)
@@ -135,25 +136,20 @@ module _
 
   -- ---- the answers of the end
 
-  pub end_yes : Target (held nodes) n q → n ≡ q → r ≡ Ends → Ended n e p true
-  end_yes target past_all f = by (finish nodes begun nulls plan counts n q e p v r pl target here m w)
+  pub end_by_test : (b : Bool) → Target (held nodes) n q → n ≡ q → (b ≡ true → r ≡ Ends) → (b ≡ false → r ≡ Ends → ⊥) → Ended n e p b
+  end_by_test b target past_all is-end not-end = by b is-end not-end (finish nodes begun nulls plan counts n q e p v r pl target here m w)
     where
-      by : Finish nodes begun nulls plan counts q e p r → Ended n e p true
-      by (goes y t g h i mk) = absurd (let z : ◌≡◌ {A = ℕ} 0 1 = cc in omega arith)
-      by (finishes g h) = ended (subst (λ (i : ℕ). way 0 e p i ≡ ends) (sym past_all) h)
-      by (halts g h) = absurd (let z : ◌≡◌ {A = ℕ} 0 1 = cc in omega arith)
-
-  pub end_no : Target (held nodes) n q → n ≡ q → (r ≡ Ends → ⊥) → Ended n e p false
-  end_no target past_all f = by (finish nodes begun nulls plan counts n q e p v r pl target here m w)
-    where
-      by : Finish nodes begun nulls plan counts q e p r → Ended n e p false
-      by (goes y t g h i mk) = open_yet (λ k. not_turns (subst (λ (i : ℕ). way 0 e p i ≡ ends) past_all k) h)
-      by (finishes g h) = absurd (f g)
-      by (halts g h) = open_yet (λ k. not_ends h (subst (λ (i : ℕ). way 0 e p i ≡ ends) past_all k))
+      by : (b : Bool) → (b ≡ true → r ≡ Ends) → (b ≡ false → r ≡ Ends → ⊥) → Finish nodes begun nulls plan counts q e p r → Ended n e p b
+      by true is-end not-end (goes y t g h i mk) = let k : r ≡ Ends = is-end refl in absurd (let z : ◌≡◌ {A = ℕ} 0 1 = cc in omega arith)
+      by true is-end not-end (finishes g h) = ended (subst (λ (i : ℕ). way 0 e p i ≡ ends) (sym past_all) h)
+      by true is-end not-end (halts g h) = let k : r ≡ Ends = is-end refl in absurd (let z : ◌≡◌ {A = ℕ} 0 1 = cc in omega arith)
+      by false is-end not-end (goes y t g h i mk) = open_yet (λ k. not_turns (subst (λ (i : ℕ). way 0 e p i ≡ ends) past_all k) h)
+      by false is-end not-end (finishes g h) = absurd (not-end refl g)
+      by false is-end not-end (halts g h) = open_yet (λ k. not_ends h (subst (λ (i : ℕ). way 0 e p i ≡ ends) past_all k))
 
 -- ---- the answers at the start
 
-pub start_by_test : (nodes begun : List ℕ) (nulls : List Bool) (plan counts d : List ℕ) (n q : ℕ) (b : Bool) (e : Expr) → Plans nodes begun nulls plan n e → kind_of (held nodes q) ≡ 1 → Unmarked counts
+pub start_by_test : (nodes : Nodes) (begun : List ℕ) (nulls : List Bool) (plan : Links) (counts d : List ℕ) (n q : ℕ) (b : Bool) (e : Expr) → Plans nodes begun nulls plan n e → kind_of (held nodes q) ≡ 1 → Unmarked counts
     → b ≡ begins_of begun plan (n - 1) q → (b ≡ true → MarksUp nodes plan n (above_at plan q) counts d) → (b ≡ false → counts ≡ d)
     → Started e q b counts d
 start_by_test nodes begun nulls plan counts d n q b e pl k m f yes-sets no-sets =

@@ -1,14 +1,16 @@
 // The way up from an event node: at each node that matters it turns towards another event node, goes on, or is stuck.
-ghost use Rattle.std.specs.Prelude.{◌≡◌, ◌+◌, ◌≤◌, ◌<◌};
-ghost use Rattle.procedure.specs.Entry.{unpacked};
-ghost use Rattle.plan.specs.Plan.{above_at, Ranked, Rises};
-ghost use Rattle.steps.specs.Climb.{begins_again, look_into, look_repeat, look_of, Climbs};
+ghost use Rattle.std.specs.Prelude.{◌≡◌, ◌≤◌, ◌<◌};
+ghost use Rattle.procedure.specs.Entry.{record_of};
+ghost use Rattle.plan.specs.Plan.{above_at};
+ghost use Rattle.steps.specs.Climb.{ClimbsBy, choose, look_by};
 
-use plan::link;
-use procedure::{bounds, entry};
+use plan::Plan;
+use procedure::MOST_REPEATS;
+use procedure::bounds::Bounds;
+use procedure::node::Node;
 
 // What the way does at a node.
-#[derive(Clone, Copy)]
+#[derive(Clone, Copy, PartialEq, Eq)]
 pub enum Look {
     // It turns here, towards the event node.
     Turns,
@@ -19,7 +21,7 @@ pub enum Look {
 }
 
 // Where the way leads.
-#[derive(Clone, Copy)]
+#[derive(Clone, Copy, PartialEq, Eq)]
 pub enum Turn {
     // It turns at this node.
     At(usize),
@@ -29,117 +31,51 @@ pub enum Turn {
     Stuck,
 }
 
-// At a sequence, of whose right part y is the node.
-fn look_into(
-    starts: &[u16; 512],
-    nulls: &[bool; 512],
-    plan: &[u64; 512],
-    y: usize,
-    q: usize,
-) -> Look
-    requires { y < 512 }
-    ensures { result ≡ look_into starts.now nulls.now plan.now y q }
+// What the way does where it may turn, and where the part may end.
+fn choose(turns: bool, ends: bool) -> Look
+    ensures { result ≡ choose turns ends }
 {
-    if plan::begins(starts, plan, y, q) {
-        return Look::Turns;
+    if turns {
+        Look::Turns
+    } else if ends {
+        Look::On
+    } else {
+        Look::Stops
     }
-    if nulls[y] {
-        return Look::On;
-    }
-    Look::Stops
-}
-
-// Whether the repeat with c blocks begun may begin one more with q; y is the node of its body.
-fn begins_again(
-    node: u64,
-    starts: &[u16; 512],
-    plan: &[u64; 512],
-    c: u16,
-    y: usize,
-    q: usize,
-) -> bool
-    requires { y < 512 }
-    ensures { result ≡ begins_again (unpacked node) starts.now plan.now c y q }
-{
-    if plan::begins(starts, plan, y, q) {
-        return bounds::allows(node, numbers::wide(c) + 1);
-    }
-    false
-}
-
-// At a repeat with c blocks begun, of whose body y is the node.
-fn look_repeat(
-    node: u64,
-    starts: &[u16; 512],
-    nulls: &[bool; 512],
-    plan: &[u64; 512],
-    c: u16,
-    y: usize,
-    q: usize,
-) -> Look
-    requires { y < 512 }
-    ensures { result ≡ look_repeat (unpacked node) starts.now nulls.now plan.now c y q }
-{
-    if begins_again(node, starts, plan, c, y, q) {
-        return Look::Turns;
-    }
-    if bounds::enough(node, nulls[y], numbers::wide(c)) {
-        return Look::On;
-    }
-    Look::Stops
 }
 
 // At node x.
-fn look_at(
-    nodes: &[u64; 512],
-    starts: &[u16; 512],
-    nulls: &[bool; 512],
-    plan: &[u64; 512],
-    counts: &[u16; 32],
-    x: usize,
-    q: usize,
-) -> Look
+fn look_at(plan: &Plan, counts: &[u16; MOST_REPEATS], x: usize, q: usize) -> Look
     requires le_x { 1 ≤ x }
-    requires x_bound { x < 512 }
-    requires ranked { Ranked nodes.now plan.now x }
-    ensures { result ≡ look_of nodes.now starts.now nulls.now plan.now counts.now x q }
+    requires lt_n { x < plan.now.procedure.now.count }
+    ensures { result ≡ look_by plan.now counts.now x q }
 {
-    let node = nodes[x];
-    if entry::kind_of(node) != entry::REPEAT {
-        return look_into(starts, nulls, plan, x - 1, q);
+    // The node of the right part, or of the body.
+    let y = x - 1;
+    let null = plan.procedure.nulls[y];
+    let begins = plan.begins(y, q);
+    match plan.procedure.nodes[x] {
+        Node::Repeat { lower, upper, .. } => {
+            let bounds = Bounds::normal(lower, upper, null);
+            let begun = usize::from(counts[plan.rank(x)]);
+            choose(begins && bounds.allows(begun + 1), bounds.enough(begun))
+        }
+        _ => choose(begins, null),
     }
-    let rank = link::rank_of(plan[x]);
-    look_repeat(node, starts, nulls, plan, counts[rank], x - 1, q)
 }
 
 // From event node p towards event node q; towards no node with a q from n on.
-pub fn climb(
-    nodes: &[u64; 512],
-    starts: &[u16; 512],
-    nulls: &[bool; 512],
-    plan: &[u64; 512],
-    n: usize,
-    counts: &[u16; 32],
-    p: usize,
-    q: usize,
-) -> Turn
-    requires n_bound { n ≤ 512 }
-    requires p_lt_n { p < n }
-    requires rises { Rises nodes.now starts.now plan.now n }
-    ensures { Climbs nodes.now starts.now nulls.now plan.now counts.now n q (above_at plan.now p) result }
+pub fn climb(plan: &Plan, counts: &[u16; MOST_REPEATS], p: usize, q: usize) -> Turn
+    requires { p < plan.now.procedure.now.count }
+    ensures { ClimbsBy plan.now counts.now q (above_at plan.now.links.now p) result }
 {
-    let mut x = link::above_of(plan[p]);
-    while x < n {
-        match look_at(nodes, starts, nulls, plan, counts, x, q) {
-            Look::Turns => {
-                return Turn::At(x);
-            }
-            Look::Stops => {
-                return Turn::Stuck;
-            }
-            Look::On => {
-                x = link::above_of(plan[x]);
-            }
+    // From link to link, which is no range.
+    let mut x = plan.above(p);
+    while x < plan.procedure.count {
+        match look_at(plan, counts, x, q) {
+            Look::Turns => return Turn::At(x),
+            Look::Stops => return Turn::Stuck,
+            Look::On => x = plan.above(x),
         }
     }
     Turn::Ends

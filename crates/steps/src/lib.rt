@@ -5,86 +5,49 @@ ghost use Rattle.std.specs.Prelude.{◌≡◌, Bool, List, ◌<◌};
 ghost use Rattle.meaning.specs.Expr.{Expr};
 ghost use Rattle.meaning.specs.Theory.Places.{Place, node_of};
 ghost use Rattle.procedure.specs.Entry.{held, kind_of};
-ghost use Rattle.plan.specs.Plan.{Plans};
+ghost use Rattle.plan.specs.Plan.{PlanOf, Plans};
 ghost use Rattle.meaning.specs.Theory.Counts.{Marked, Unmarked};
 ghost use Rattle.steps.specs.Step.{Stepped, Started, Ended};
+
+use climb::Turn;
+use plan::Plan;
+use procedure::MOST_REPEATS;
 
 pub mod climb; // climb.rt: the way up from an event node
 mod turn; // turn.rt: the counters after a turn
 
 // From event node `at` to event node q. The counters change only where the answer is yes.
-pub fn step(
-    nodes: &[u64; 512],
-    starts: &[u16; 512],
-    nulls: &[bool; 512],
-    plan: &[u64; 512],
-    n: usize,
-    counts: &mut [u16; 32],
-    at: usize,
-    q: usize,
-) -> bool
-    requires at_lt_n { at < n }
-    requires q_lt_n { q < n }
-    requires plans { (e : Expr) × Plans nodes.now starts.now nulls.now plan.now n e }
-    ensures { (e : Expr) (p : Place e) → Plans nodes.now starts.now nulls.now plan.now n e → kind_of (held nodes.now q) ≡ 1 → node_of 0 e p ≡ at → Marked counts.old e p → Stepped e p q result counts.old counts.new }
+pub fn step(plan: &Plan, counts: &mut [u16; MOST_REPEATS], at: usize, q: usize) -> bool
+    requires at_lt_n { at < plan.now.procedure.now.count }
+    requires q_lt_n { q < plan.now.procedure.now.count }
+    ensures { (e : Expr) (p : Place e) → PlanOf plan.now e → kind_of (held plan.now.procedure.now.nodes q) ≡ 1 → node_of 0 e p ≡ at → Marked counts.old e p → Stepped e p q result counts.old counts.new }
 {
-    match climb::climb(nodes, starts, nulls, plan, n, counts, at, q) {
-        climb::Turn::At(x) => {
-            turn::turn(nodes, starts, nulls, plan, counts, x, q);
-            return true;
+    match climb::climb(plan, counts, at, q) {
+        Turn::At(x) => {
+            turn::turn(plan, counts, x, q);
+            true
         }
-        climb::Turn::Ends => {
-            return false;
-        }
-        climb::Turn::Stuck => {
-            return false;
-        }
+        Turn::Ends | Turn::Stuck => false,
     }
 }
 
 // From the start to event node q. The counters change only where the answer is yes.
-pub fn start(
-    nodes: &[u64; 512],
-    starts: &[u16; 512],
-    plan: &[u64; 512],
-    n: usize,
-    counts: &mut [u16; 32],
-    q: usize,
-) -> bool
-    requires q_lt_n { q < n }
-    requires plans { (nulls : List Bool) × (e : Expr) × Plans nodes.now starts.now nulls plan.now n e }
-    ensures { (nulls : List Bool) (e : Expr) → Plans nodes.now starts.now nulls plan.now n e → kind_of (held nodes.now q) ≡ 1 → Unmarked counts.old → Started e q result counts.old counts.new }
+pub fn start(plan: &Plan, counts: &mut [u16; MOST_REPEATS], q: usize) -> bool
+    requires { q < plan.now.procedure.now.count }
+    ensures { (nulls : List Bool) (e : Expr) → Plans plan.now.procedure.now.nodes plan.now.procedure.now.starts nulls plan.now.links.now plan.now.procedure.now.count e → kind_of (held plan.now.procedure.now.nodes q) ≡ 1 → Unmarked counts.old → Started e q result counts.old counts.new }
 {
-    if plan::begins(starts, plan, n - 1, q) {
-        turn::mark(nodes, plan, counts, n, q);
-        return true;
+    let n = plan.procedure.count;
+    let begins = plan.begins(n - 1, q);
+    if begins {
+        turn::mark(plan, counts, n, q);
     }
-    false
+    begins
 }
 
 // Whether the run that stands at event node `at` may end there.
-pub fn can_end(
-    nodes: &[u64; 512],
-    starts: &[u16; 512],
-    nulls: &[bool; 512],
-    plan: &[u64; 512],
-    n: usize,
-    counts: &[u16; 32],
-    at: usize,
-) -> bool
-    requires at_lt_n { at < n }
-    requires plans { (e : Expr) × Plans nodes.now starts.now nulls.now plan.now n e }
-    ensures { (e : Expr) (p : Place e) → Plans nodes.now starts.now nulls.now plan.now n e → node_of 0 e p ≡ at → Marked counts.now e p → Ended n e p result }
+pub fn can_end(plan: &Plan, counts: &[u16; MOST_REPEATS], at: usize) -> bool
+    requires { at < plan.now.procedure.now.count }
+    ensures { (e : Expr) (p : Place e) → PlanOf plan.now e → node_of 0 e p ≡ at → Marked counts.now e p → Ended plan.now.procedure.now.count e p result }
 {
-    match climb::climb(nodes, starts, nulls, plan, n, counts, at, n) {
-        climb::Turn::At(_) => {
-            return false;
-        }
-        climb::Turn::Ends => {
-            return true;
-        }
-        climb::Turn::Stuck => {
-            return false;
-        }
-    }
+    climb::climb(plan, counts, at, plan.procedure.count) == Turn::Ends
 }

@@ -5,4 +5,5 @@ mod LaidStays
 mod Laying
 mod Lays
 mod Reaches
+mod Walking
 mod Writing

@@ -1,15 +1,20 @@
 -- What a part lays of a run: the items of its reading, one after the other. A model of our code, and no promise.
-use Rattle.std.specs.Prelude.{◌≡◌, List, [], ◌∷◌, ◌++◌, map, ℕ, ◌+◌, ◌-◌, ◌*◌, ◌≤◌, ◌<◌, length, drop, get_or}
-use Rattle.codes.specs.Codes.{Codes, Contains}
+use Rattle.std.specs.Prelude.{◌≡◌, List, [], ◌∷◌, ◌++◌, map, ℕ, ◌+◌, ◌-◌, ◌*◌, ◌≤◌, ◌<◌, length, drop, get_or, Option, Some, None}
+use Rattle.codes.specs.Codes.{Codes, Contains, no_codes}
 use Rattle.meaning.specs.Expr.{Expr, root}
 use Rattle.meaning.specs.Node.{Node, Stands}
 use Rattle.meaning.specs.Reading.{Item, Reading, codes}
 use Rattle.meaning.specs.Record.{item_number}
 use Rattle.meaning.specs.Sets.{First, After}
 use Rattle.meaning.specs.Theory.Conflicts.{Free}
-use Rattle.write.specs.declared.lay.Laid.{Laid}
-use Rattle.write.specs.declared.lay.Laid.TheVariants.{To, Unlaid}
+use Rattle.procedure.specs.declared.bounds.Bounds.{Bounds}
+use Rattle.procedure.specs.Entry.{held}
+use Rattle.procedure.specs.Opening.{BoundsAt}
+use Rattle.procedure.specs.Listing.{Listing, TellsNulls}
 use Rattle.record.specs.Put.{puts}
+use Rattle.sets.specs.Tables.{TellsSets}
+use Rattle.write.specs.declared.lay.Places.{Places}
+use Rattle.write.specs.declared.lay.Source.{Source}
 
 -- the next code of the run is in the set
 abbrev pub NextIn : Codes → List ℕ → ℕ → Type 0
@@ -37,33 +42,58 @@ pub record Lays (P : List Item → Type 0) (e : Expr) (w : List ℕ) (r : Divisi
   pub only : (x : List Item) (t : List ℕ) → P x → w ≡ codes x ++ t → Detached e x t → r ≡ into x t
 
 -- the walk tells what is laid, and the space has it from place `to` on
-abbrev pub Reported : List ℕ → List ℕ → ℕ → Division → Laid → List ℕ → Type 0
-Reported run space to (into x v) (To a t) after = (v ≡ drop a run) × (t ≡ to + length x) × (after ≡ puts space to (map item_number x))
-Reported run space to (into x v) Unlaid after = ⊥
-Reported run space to never (To a t) after = ⊥
-Reported run space to never Unlaid after = Unit {0}
-
--- the part of node i lays the run from place `at` on as the walk says, into the space from place `to` on
-unfoldable pub LaysAt : (ℕ → Node) → List ℕ → List ℕ → ℕ → ℕ → ℕ → Laid → List ℕ → Type 0
-LaysAt g run space i at to r after =
-    (s : ℕ) (e : Expr) → Stands g s e → root s e ≡ i → Free e → (q : Division) × Lays (Reading s e) e (drop at run) q × Reported run space to q r after
-
--- the walk goes to these places where P holds, and tells of no reading where it does not
-abbrev pub Halts : Type 0 → ℕ → ℕ → Laid → Type 0
-Halts P at to (To a t) = P × (a ≡ at) × (t ≡ to)
-Halts P at to Unlaid = ¬ P
+abbrev pub Reported : List ℕ → List ℕ → ℕ → Division → Option Places → List ℕ → Type 0
+Reported run space to (into x v) (Some p) after =
+    (v ≡ drop p.event run) × (p.item ≡ to + length x) × (after ≡ puts space to (map item_number x))
+Reported run space to (into x v) None after = ⊥
+Reported run space to never (Some p) after = ⊥
+Reported run space to never None after = Unit {0}
 
 -- the part of node i, from these places on, lays no item from this place on: a reading has at most 2 i + 1 items for each event
 unfoldable pub reach : List ℕ → ℕ → ℕ → ℕ → ℕ
 reach run i at to = to + (2 * i + 1) * (length run - at)
 
 -- the walk does not go back, nor past the end, nor further than the part reaches
-abbrev pub Advances : List ℕ → ℕ → ℕ → ℕ → Laid → Type 0
-Advances run i at to (To a t) = (at ≤ a) × (a ≤ length run) × (reach run i a t ≤ reach run i at to)
-Advances run i at to Unlaid = Unit {0}
+abbrev pub Advances : List ℕ → ℕ → Places → Option Places → Type 0
+Advances run i from (Some p) = (from.event ≤ p.event) × (p.event ≤ length run) × (reach run i p.event p.item ≤ reach run i from.event from.item)
+Advances run i from None = Unit {0}
 
 -- the places are such that no number of the walk grows too large
-pub record Leeway (run : List ℕ) (i at to : ℕ) : Type 0 where
+pub record Leeway (run : List ℕ) (i : ℕ) (at : Places) : Type 0 where
   pub short : length run ≤ 65536
-  pub inside : at ≤ length run
-  pub fits : reach run i at to ≤ 134217728
+  pub inside : at.event ≤ length run
+  pub fits : reach run i at.event at.item ≤ 134217728
+
+-- the record of a node, how many there are, and the run
+abbrev pub node_of : Source → ℕ → Node
+node_of a = held a.procedure.now.nodes
+
+abbrev pub count_of : Source → ℕ
+count_of a = a.procedure.now.count
+
+abbrev pub run_of : Source → List ℕ
+run_of a = a.run.now
+
+-- the nodes are those of the expression
+abbrev pub Lists : Source → Expr → Type 0
+Lists a e = Listing a.procedure.now.nodes (count_of a) e
+
+-- they are those of some expression, and the tables have the empty words and first of each of its parts
+pub record Ready (a : Source) : Type 0 where
+  pub expr : Expr
+  pub lists : Lists a expr
+  pub tells_nulls : TellsNulls (node_of a) a.procedure.now.nulls (count_of a)
+  pub tells_sets : TellsSets First (node_of a) a.firsts.now (count_of a)
+
+-- the next code of the run is in first of the part of node i
+abbrev pub Begins : Source → ℕ → ℕ → Type 0
+Begins a i at = NextIn (get_or a.firsts.now i no_codes) (run_of a) at
+
+-- the part of node i lays the run from these places on as the walk says
+pub record LaysAt (a : Source) (space : List ℕ) (i : ℕ) (from : Places) (r : Option Places) (after : List ℕ) : Type 0 where
+  pub lays : (s : ℕ) (e : Expr) → Stands (node_of a) s e → root s e ≡ i → Free e
+      → (q : Division) × Lays (Reading s e) e (drop from.event (run_of a)) q × Reported (run_of a) space from.item q r after
+
+-- node i is a repeat, and these are its bounds
+abbrev pub BoundsHere : Source → ℕ → Bounds → Type 0
+BoundsHere a i b = BoundsAt a.procedure.now i b

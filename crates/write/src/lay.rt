@@ -1,155 +1,126 @@
 // What a part lays of a run: the items of its reading, one after the other. In an admitted procedure the next code says where to go.
-ghost use Rattle.std.proofs.Math.Bool.{So};
-ghost use Rattle.std.specs.Prelude.{◌≡◌, ◌+◌};
+ghost use Rattle.std.specs.Prelude.{◌<◌};
 ghost use Rattle.meaning.specs.Expr.{Within};
-ghost use Rattle.meaning.specs.Node.{bound};
-ghost use Rattle.meaning.specs.Sets.{First};
-ghost use Rattle.procedure.specs.Entry.{held, kind_of, unpacked, upper_of};
-ghost use Rattle.procedure.specs.Listing.{OneOf, TellsNulls};
+ghost use Rattle.procedure.specs.Bounds.{upper};
 ghost use Rattle.procedure.specs.Tests.{Decides};
-ghost use Rattle.sets.specs.Tables.{TellsSets};
-ghost use Rattle.write.specs.Lay.{Advances, Halts, LaysAt, Leeway, NextIn};
+ghost use Rattle.write.specs.Lay.{Advances, Begins, BoundsHere, LaysAt, Leeway, Ready, count_of, run_of};
 
-use procedure::{bounds, entry};
+use codes::Codes;
+use procedure::bounds::Bounds;
+use procedure::node::Node;
+use procedure::{MOST_NODES, Procedure};
 use record::items;
 
-// What a walk over a part lays.
+// How far a walk is: the events up to a place of the run, as the items up to a place of the record.
 #[derive(Clone, Copy)]
-pub enum Laid {
-    // The events up to this place of the run, as the items up to this place of the record.
-    To(usize, usize),
-    // No reading of the part begins here.
-    Unlaid,
+pub struct Places {
+    pub event: usize,
+    pub item: usize,
 }
 
-fn wide(x: u8) -> u32
-    ensures { result ≡ x }
-{
-    x as u32
+// A run, and what it is laid by: a procedure, with first of each of its parts.
+#[derive(Clone, Copy)]
+pub struct Source<'a> {
+    pub procedure: &'a Procedure,
+    pub firsts: &'a [Codes; MOST_NODES],
+    pub run: &'a [u8],
 }
 
-// Whether the next code of the run is in the set.
-fn next_in(set: [u64; 2], run: &[u8], at: usize) -> bool
-    ensures { Decides (NextIn set run.now at) result }
-{
-    if at < run.len() {
-        return codes::has(set, wide(run[at]));
+impl Source<'_> {
+    // Whether the next code of the run is in first of the part of node i.
+    fn begins(&self, i: usize, at: usize) -> bool
+        requires { i < 512 }
+        ensures { Decides (Begins self.now i at) result }
+    {
+        at < self.run.len() && self.firsts[i].has(u32::from(self.run[at]))
     }
-    false
-}
 
-// Whether another block begins: the next code is in the set, and the repeat may have k blocks.
-fn another(set: [u64; 2], entry: u64, run: &[u8], at: usize, k: usize) -> bool
-    ensures { Decides (NextIn set run.now at × Within k (bound (upper_of (unpacked entry)))) result }
-{
-    if !next_in(set, run, at) {
-        return false;
+    // Whether another block of the repeat at node i begins: the next code is in first, and the repeat may have k blocks.
+    fn another(&self, i: usize, bounds: Bounds, at: usize, k: usize) -> bool
+        requires { i < 512 }
+        ensures { Decides (Begins self.now i at × Within k (upper bounds)) result }
+    {
+        self.begins(i, at) && bounds.allows(k)
     }
-    bounds::allows(entry, k)
-}
 
-// Up to these places, where the walk may end there.
-fn to_if(may: bool, event: usize, item: usize) -> Laid
-    ensures { Halts (So may) event item result }
-{
-    if may {
-        return Laid::To(event, item);
-    }
-    Laid::Unlaid
-}
-
-// What the part of node `node` lays of the run from `event` on, into the space from `item` on. The loop narrows the part; only the
-// left of a sequence and the body of a repeat are walks of their own.
-#[cycle(lay_lay_blocks)]
-pub fn lay(
-    nodes: &[u64; 512],
-    nulls: &[bool; 512],
-    firsts: &[[u64; 2]; 512],
-    run: &[u8],
-    space: &mut [u8],
-    node: usize,
-    event: usize,
-    item: usize,
-) -> Laid
-    requires one_of { OneOf nodes.now node }
-    requires tells_nulls { TellsNulls (held nodes.now) nulls.now (node + 1) }
-    requires tells_sets { TellsSets First (held nodes.now) firsts.now (node + 1) }
-    requires leeway { Leeway run.now node event item }
-    ensures advances { Advances run.now node event item result }
-    ensures lays_at { LaysAt (held nodes.now) run.now space.old node event item result space.new }
-{
-    let mut i = node;
-    let mut at = event;
-    let mut to = item;
-    loop {
-        if !next_in(firsts[i], run, at) {
-            return to_if(nulls[i], at, to);
-        }
-        let entry = nodes[i];
-        let kind = entry::kind_of(entry);
-        if kind < entry::CHOICE {
-            items::put(space, to, i);
-            return Laid::To(at + 1, to + 1);
-        }
-        if kind == entry::REPEAT {
-            return lay_blocks(nodes, nulls, firsts, run, space, i, at, to);
-        }
-        let left = entry::left_of(entry);
-        if kind == entry::CHOICE {
-            if next_in(firsts[left], run, at) {
-                i = left;
-            } else {
-                i -= 1;
+    // The places up to which the part of node `node` lays the run, from these places on; none where no reading of the part begins there.
+    // The loop narrows the part; only the left of a sequence and the body of a repeat are walks of their own.
+    #[cycle(lay_lay_blocks)]
+    pub fn lay(&self, space: &mut [u8], node: usize, from: Places) -> Option<Places>
+        requires ready { Ready self.now }
+        requires below { node < count_of self.now }
+        requires leeway { Leeway (run_of self.now) node from }
+        ensures advances { Advances (run_of self.now) node from result }
+        ensures lays_at { LaysAt self.now space.old node from result space.new }
+    {
+        let mut i = node;
+        let mut at = from;
+        loop {
+            if !self.begins(i, at.event) {
+                return self.procedure.nulls[i].then_some(at);
             }
-        } else {
-            let Laid::To(a, t) = lay(nodes, nulls, firsts, run, space, left, at, to) else {
-                return Laid::Unlaid;
-            };
-            at = a;
-            to = t;
-            i -= 1;
+            match self.procedure.nodes[i] {
+                Node::Empty | Node::Event(_) => {
+                    items::put(space, at.item, i);
+                    return Some(Places {
+                        event: at.event + 1,
+                        item: at.item + 1,
+                    });
+                }
+                Node::Repeat { lower, upper, .. } => {
+                    let bounds = Bounds::normal(lower, upper, self.procedure.nulls[i - 1]);
+                    return self.lay_blocks(space, i, bounds, at);
+                }
+                Node::Choice { left, .. } => {
+                    let left = usize::from(left);
+                    if self.begins(left, at.event) {
+                        i = left;
+                    } else {
+                        i -= 1;
+                    }
+                }
+                Node::Sequence { left, .. } => {
+                    at = self.lay(space, usize::from(left), at)?;
+                    i -= 1;
+                }
+            }
         }
     }
-}
 
-// What the repeat at node i lays: block after block, as long as the next code begins one and the upper bound allows it.
-#[cycle(lay_lay_blocks)]
-fn lay_blocks(
-    nodes: &[u64; 512],
-    nulls: &[bool; 512],
-    firsts: &[[u64; 2]; 512],
-    run: &[u8],
-    space: &mut [u8],
-    i: usize,
-    event: usize,
-    item: usize,
-) -> Laid
-    requires one_of { OneOf nodes.now i }
-    requires tells_nulls { TellsNulls (held nodes.now) nulls.now (i + 1) }
-    requires tells_sets { TellsSets First (held nodes.now) firsts.now (i + 1) }
-    requires leeway { Leeway run.now i event item }
-    requires i_value { kind_of (held nodes.now i) ≡ 4 }
-    ensures advances { Advances run.now i event item result }
-    ensures lays_at { LaysAt (held nodes.now) run.now space.old i event item result space.new }
-{
-    let mut at = event;
-    let mut to = item;
-    let mut k: usize = 0;
-    loop {
-        if !another(firsts[i], nodes[i], run, at, k + 1) {
-            return to_if(bounds::may_have(nodes[i], nulls[i - 1], k), at, to);
+    // The same of the repeat at node i with these bounds: block after block, as long as the next code begins one and the upper bound
+    // allows it.
+    #[cycle(lay_lay_blocks)]
+    fn lay_blocks(&self, space: &mut [u8], i: usize, bounds: Bounds, from: Places) -> Option<Places>
+        requires ready { Ready self.now }
+        requires below { i < count_of self.now }
+        requires leeway { Leeway (run_of self.now) i from }
+        requires bounds_at { BoundsHere self.now i bounds }
+        ensures advances { Advances (run_of self.now) i from result }
+        ensures lays_at { LaysAt self.now space.old i from result space.new }
+    {
+        let mut at = from;
+        // Blocks, counted as they come: the run says how many, and no range does.
+        let mut k: usize = 0;
+        loop {
+            if !self.another(i, bounds, at.event, k + 1) {
+                return bounds.may_have(k).then_some(at);
+            }
+            items::put(space, at.item, i + items::OPENING);
+            let body = Places {
+                event: at.event,
+                item: at.item + 1,
+            };
+            let end = self.lay(space, i - 1, body)?;
+            // A block holds at least one event.
+            if end.event == at.event {
+                return None;
+            }
+            items::put(space, end.item, i + items::CLOSING);
+            at = Places {
+                event: end.event,
+                item: end.item + 1,
+            };
+            k += 1;
         }
-        items::put(space, to, i + items::OPENING);
-        let Laid::To(a, t) = lay(nodes, nulls, firsts, run, space, i - 1, at, to + 1) else {
-            return Laid::Unlaid;
-        };
-        // A block holds at least one event.
-        if a == at {
-            return Laid::Unlaid;
-        }
-        items::put(space, t, i + items::CLOSING);
-        at = a;
-        to = t + 1;
-        k += 1;
     }
 }

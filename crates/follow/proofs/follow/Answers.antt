@@ -1,13 +1,13 @@
 -- `follow::follow` meets its contract. Assumes nothing.
+use Rattle.std.proofs.lemmas.Result.{err_from_is_err_and}
 use Rattle.meaning.specs.Promises.{Follows}
-use Rattle.judge.proofs.Entering.{barred, entered}
 use Rattle.follow.proofs.Following.{follows_entered}
 use Rattle.follow.proofs.follow.Goals as goal
 
-pub returns-in-Refused : goal.returns-in-Refused
-returns-in-Refused c =
-    Follows.refused _ (barred c.args.file.now _ _ _ _ _ c.admit.result c.admit.ensures _ c.in-Refused.is)
+pub returns-in_err-admit : goal.returns-in_err-admit
+returns-in_err-admit c =
+    let p = err_from_is_err_and c.from_residual.result c.from_residual.ensures.1 in
+    rw (p.1, p.2) (Follows.refused _ c.in_err-admit.ensures)
 
-pub returns-in-Nodes : goal.returns-in-Nodes
-returns-in-Nodes c =
-    follows_entered (entered c.args.file.now _ _ _ _ _ c.admit.result c.admit.ensures _ _ c.in-Nodes.is) c.go_on.ensures
+pub returns : goal.returns
+returns c = follows_entered c.in_ok-admit.ensures c.go_on.ensures

@@ -1,36 +1,22 @@
--- What a turn read stands behind what was there, and is what the input had next.
-use Rattle.std.proofs.Common.{◌≡◌, ℕ, ◌+◌, ◌-◌, ◌≤◌, List, ◌++◌, rules, arith, length, take, slice_range, sym, ap, ◌∙◌, subst, le_refl, drop_at, length-take-le}
-use Rattle.std.proofs.lemmas.Slice.{take-put_mid_below}
+-- What a turn read stands behind what was there, and is what the input had next. Assumes nothing.
+use Rattle.std.proofs.Common.{◌≡◌, ℕ, ◌+◌, ◌≤◌, List, ◌++◌, rules, length, take, sym, ap, ◌∙◌, subst, length-take-le}
 use Rattle.std.specs.Io.KnownBytes.{Consumes}
 use Rattle.std.proofs.KnownBytes.{Consumes-trans}
 use borrow.Rule.Slice.PartMut.{put_mid, post_of}
-use lib.Seq.{take-add, take-append-le}
+use lib.Seq.{take-append-add, take-append-le}
 use Rattle.input.proofs.read_full.Goals as goal
 
--- the first b elements are the first a and the part behind them
-take_split : (a b : ℕ) (old new : List ℕ) → a ≤ b → take a new ≡ take a old → take a old ++ slice_range new a b ≡ take b new
-take_split a b old new h front =
-    let same : a + (b - a) ≡ b = omega arith in
-    ap (λ l. l ++ slice_range new a b) (sym front) ∙ sym (take-add a (b - a) new) ∙ ap (λ n. take n new) same
-
--- the part that was put there is the beginning of what was put
-slice_range-put_mid : (a k n : ℕ) (xs ys : List ℕ) → a ≤ length xs → n ≤ length ys → slice_range (put_mid a k xs ys) a (a + n) ≡ take n ys
-slice_range-put_mid a k n xs ys within fits =
-    let same : (a + n) - a ≡ n = omega arith in
-    let after = post_of a k xs in
-    ap (take ((a + n) - a)) (drop_at (take a xs) (ys ++ after) a (length-take-le a xs within)) ∙ ap (λ m. take m (ys ++ after)) same ∙ take-append-le n ys after fits
+-- the first a elements, and the n that were put behind them
+take_put : (a k n : ℕ) (xs ys : List ℕ) → a ≤ length xs → n ≤ length ys → take (a + n) (put_mid a k xs ys) ≡ take a xs ++ take n ys
+take_put a k n xs ys within fits =
+    ap (λ m. take (m + n) (put_mid a k xs ys)) (sym (length-take-le a xs within))
+    ∙ take-append-add (take a xs) (ys ++ post_of a k xs) n ∙ ap (λ l. take a xs ++ l) (take-append-le n ys (post_of a k xs) fits)
 
 pub loop-done-preserved : goal.loop-done-preserved
 loop-done-preserved g c =
-    let from = c.loop-done.done in
-    let room = length c.loop-done.buf - from in
-    let within = c.loop-done.invariant.0 in
-    let part = slice_range-put_mid from room c.in-Ok.count c.loop-done.buf c.read.new.buf within c.in-Ok.ensures.bound.0 in
-    let joined =
-    take_split from (from + c.in-Ok.count) c.loop-done.buf (put_mid from room c.loop-done.buf c.read.new.buf) (omega arith)
-    (take-put_mid_below _ _ _ _ _ (le_refl _) within) in (
-      search rules,
-      search rules,
-      subst (Consumes _ _) (ap (λ l. take from c.loop-done.buf ++ l) (sym part) ∙ joined)
-          (Consumes-trans _ _ _ _ _ c.loop-done.invariant.2 c.in-Ok.ensures.bytes.0),
-    )
+    let before = c.loop-done.invariant in record {
+      within = search rules;
+      whole = search rules;
+      bytes = subst (Consumes _ _) (sym (take_put c.loop-done.done _ c.in-Ok.count c.loop-done.buf _ before.within c.in-Ok.ensures.bound.0))
+          (Consumes-trans _ _ _ _ _ before.bytes c.in-Ok.ensures.bytes.0);
+    }

@@ -1,6 +1,7 @@
 -- A file is refused in one way, or lists one expression and is not refused.
-use mathlib.Core.Path.{◌≡◌, refl, sym, ap₂, ◌∙◌, subst, subst₃}
+use mathlib.Core.Path.{◌≡◌, refl, sym, ap, ap₂, ◌∙◌, subst, subst₃}
 use mathlib.Core.List.{List}
+use mathlib.Core.Logic.{inl, inr}
 use Prim.Native.Nat.{ℕ, zero, suc, ◌+◌, ◌-◌, ◌≤◌, ◌<◌, zero-le}
 use native.Mathlib.Omega.{arith}
 use native.Mathlib.Decide.{dec_lt}
@@ -9,7 +10,11 @@ use Rattle.meaning.specs.declared.Refusal.{Refusal}
 use Rattle.meaning.specs.declared.Refusal.TheVariants.{Size, Letters, Measures, Record, Order, Repeats, Conflict}
 use Rattle.meaning.specs.Expr.{Expr, empty, event, choice, sequence, repeat, root, size}
 use Rattle.meaning.specs.Node.{Node, InTable, InOrder, Stands, repeats_below}
-use Rattle.meaning.specs.Conflict.{LowestConflict, SharedCodes}
+use Rattle.meaning.specs.declared.ConflictKind.{ConflictKind}
+use Rattle.meaning.specs.declared.ConflictKind.TheVariants as kinds
+use Rattle.meaning.specs.Answers.{words}
+use Rattle.meaning.specs.Conflict as conflict
+use Rattle.meaning.specs.Conflict.{LowestConflict, SharedCodes, kind_number}
 use Rattle.meaning.specs.File.{Sized, Lettered, Measured, TableBelow, OrderBelow, Lists, WellFormed, Refused, by_size, by_letters, by_measures, by_record, by_order, by_root, by_repeats, Holds, Barred, malformed, conflicting, Admitted, count, node_at}
 use Rattle.meaning.specs.Numbers.{row}
 use Rattle.meaning.proofs.Expressions.Parts.{part_within, root-size}
@@ -212,25 +217,56 @@ holds_not_refused f e r h a =
     held (suc (suc (suc (suc (suc zero))))) p = passed_test f 5 7 (omega arith) p
     held (suc (suc (suc (suc (suc (suc k)))))) p = p.1
 
+-- the kind with the number
+pub kind_of_number : ℕ → ConflictKind
+kind_of_number zero = kinds.Choice
+kind_of_number (suc zero) = kinds.Choice
+kind_of_number (suc (suc zero)) = kinds.EmptyLeft
+kind_of_number (suc (suc (suc zero))) = kinds.AfterLeft
+kind_of_number (suc (suc (suc (suc k)))) = kinds.Repeat
+
+numbered : (k : ConflictKind) → kind_of_number (kind_number k) ≡ k
+unfolding kind_of_number
+numbered kinds.Choice = refl
+numbered kinds.EmptyLeft = refl
+numbered kinds.AfterLeft = refl
+numbered kinds.Repeat = refl
+
+-- a number is of one kind
+same_kind : (k l : ConflictKind) → kind_number k ≡ kind_number l → k ≡ l
+same_kind k l e = sym (numbered k) ∙ ap kind_of_number e ∙ numbered l
+
+-- the number of a conflict's kind is of a kind
+pub conflict_kind : (e : Expr) (k c : ℕ) → conflict.Conflict e k c → kind_number (kind_of_number k) ≡ k
+unfolding kind_of_number
+conflict_kind empty k c p = absurd p
+conflict_kind (event d) k c p = absurd p
+conflict_kind (choice l r) k c p = subst (λ (m : ℕ). kind_number (kind_of_number m) ≡ m) (sym p.0) refl
+conflict_kind (sequence l r) k c (inl p) = subst (λ (m : ℕ). kind_number (kind_of_number m) ≡ m) (sym p.0) refl
+conflict_kind (sequence l r) k c (inr p) = subst (λ (m : ℕ). kind_number (kind_of_number m) ≡ m) (sym p.0) refl
+conflict_kind (repeat b lower upper) k c p = subst (λ (m : ℕ). kind_number (kind_of_number m) ≡ m) (sym p.0) refl
+
 -- a file that holds an expression without a conflict is not refused with 1 to 7
 pub admitted_not_barred : (f : List ℕ) (e : Expr) (r : Refusal) → Admitted f e → ¬ Barred f r
 admitted_not_barred f e r a (malformed b) = holds_not_refused f e r a.holds b
-admitted_not_barred f e r a (conflicting d i k c low high n h l s) =
+admitted_not_barred f e r a (conflicting d i k c w n h l s) =
     let same = holds_unique f d e h a.holds in
     let bounded = holds_bounded a.holds in
-    strong_no_conflict e bounded a.strong i k c (subst (λ (x : Expr). LowestConflict x i k c) same l).code.holds
+    strong_no_conflict e bounded a.strong i (kind_number k) c (subst (λ (x : Expr). LowestConflict x i (kind_number k) c) same l).code.holds
 
 -- a file is refused with 1 to 7 in one way
 pub barred_unique : (f : List ℕ) (r q : Refusal) → Barred f r → Barred f q → r ≡ q
 barred_unique f r q (malformed a) (malformed b) = refused_unique f r q a b
-barred_unique f r q (malformed a) (conflicting e i k c low high n h l s) = absurd (holds_not_refused f e r h a)
-barred_unique f r q (conflicting e i k c low high n h l s) (malformed b) = absurd (holds_not_refused f e q h b)
-barred_unique f r q (conflicting e i k c low high n h l s) (conflicting d j m b low' high' n' g o z) =
+barred_unique f r q (malformed a) (conflicting e i k c w n h l s) = absurd (holds_not_refused f e r h a)
+barred_unique f r q (conflicting e i k c w n h l s) (malformed b) = absurd (holds_not_refused f e q h b)
+barred_unique f r q (conflicting e i k c w n h l s) (conflicting d j m b v o g p z) =
     let one = holds_unique f d e g h in
-    let same = lowest_unique e i k c j m b l (subst (λ (x : Expr). LowestConflict x j m b) one o) in
-    let there : SharedCodes e i k low' high' n' = subst₃ (λ (x : Expr) (y w : ℕ). SharedCodes x y w low' high' n') one (sym same.0) (sym same.1) z in
+    let same = lowest_unique e i (kind_number k) c j (kind_number m) b l (subst (λ (x : Expr). LowestConflict x j (kind_number m) b) one p) in
+    let there : SharedCodes e i (kind_number k) v.low v.high o =
+    subst₃ (λ (x : Expr) (y u : ℕ). SharedCodes x y u v.low v.high o) one (sym same.0) (sym same.1) z in
     let codes = shared_unique s there in
-    λ t. Conflict (same.0 t) (same.1 t) (same.2 t) (codes.0 t) (codes.1 t) (codes.2 t)
+    let kinds = same_kind k m same.1 in
+    λ t. Conflict (same.0 t) (kinds t) (same.2 t) (words (codes.0 t) (codes.1 t)) (codes.2 t)
 
 -- the node reported is one of the file's, of which there are at most 512
 refused_node_small : (f : List ℕ) (r : Refusal) → Refused f r → (row r).node < 512
@@ -244,7 +280,7 @@ refused_node_small f r (by_repeats e i w l a b) = omega (arith, w.framed.2.1)
 
 pub barred_node_small : (f : List ℕ) (r : Refusal) → Barred f r → (row r).node < 512
 barred_node_small f r (malformed b) = refused_node_small f r b
-barred_node_small f r (conflicting e i k c low high n h l s) =
+barred_node_small f r (conflicting e i k c w n h l s) =
     let there = l.code.holds in
     omega (arith, part_within 0 e i there.0 there.1, h.formed.lists.1, h.formed.framed.2.1, zero-add (size e))
 
@@ -260,4 +296,4 @@ refused_number f r (by_repeats e i w l a b) = omega arith
 
 pub barred_number : (f : List ℕ) (r : Refusal) → Barred f r → (row r).answer ≤ 7
 barred_number f r (malformed b) = omega (arith, refused_number f r b)
-barred_number f r (conflicting e i k c low high n h l s) = omega arith
+barred_number f r (conflicting e i k c w n h l s) = omega arith

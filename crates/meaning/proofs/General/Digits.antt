@@ -1,12 +1,11 @@
--- The digit c of a number, s / 2 ^ c % 2: of a power, of `or` and `and`, past a number's length, and how two numbers are equal by
--- their digits. What the laws of membership rest on. Assumes nothing.
+-- The digit c of a number, s / 2 ^ c % 2: past a number's length, and how two numbers are equal by their digits. What the laws of
+-- membership rest on. Assumes nothing.
 use mathlib.Core.Path.{◌≡◌, sym, ap, ◌∙◌}
-use Prim.Native.Nat.{ℕ, zero, suc, ◌+◌, ◌/◌, ◌%◌, ◌^◌, ◌<◌, min, max}
+use Prim.Native.Nat.{ℕ, zero, suc, ◌/◌, ◌%◌, ◌^◌, ◌<◌}
 use native.Mathlib.Nat.{div-eq_of_lt, div-one, pow-suc}
 use native.Mathlib.Numerals.{one-add}
 use native.Mathlib.Omega.{arith}
-use lib.Bits.{bit_and, bit_or, and_shr, and_step, or_shr, or_step, shifted_even}
-use lib.Pow.{pow-add, shl-shr, shr-shr}
+use lib.Pow.{shr-shr}
 
 -- digit c + 1 of a number is digit c of its half
 pub digit_up : (s c : ℕ) → s / 2 ^ suc c ≡ s / 2 / 2 ^ c
@@ -18,22 +17,6 @@ digit_lowest s = div-one s
 -- past a number's length every digit is 0
 pub digit_past : (s c : ℕ) → s < 2 ^ c → s / 2 ^ c % 2 ≡ 0
 digit_past s c h = ap (λ (n : ℕ). n % 2) (div-eq_of_lt h)
-
-pub digit_of_or : (a b c : ℕ) → bit_or a b / 2 ^ c % 2 ≡ max (a / 2 ^ c % 2) (b / 2 ^ c % 2)
-digit_of_or a b c = ap (λ (n : ℕ). n % 2) (or_shr a b c) ∙ omega (arith, or_step (a / 2 ^ c) (b / 2 ^ c))
-
-pub digit_of_and : (a b c : ℕ) → bit_and a b / 2 ^ c % 2 ≡ min (a / 2 ^ c % 2) (b / 2 ^ c % 2)
-digit_of_and a b c = ap (λ (n : ℕ). n % 2) (and_shr a b c) ∙ omega (arith, and_step (a / 2 ^ c) (b / 2 ^ c))
-
--- the power 2 ^ c has digit c
-pub digit_of_power : (c : ℕ) → 2 ^ c / 2 ^ c % 2 ≡ 1
-digit_of_power c = ap (λ (n : ℕ). n / 2 ^ c % 2) (omega arith) ∙ ap (λ (n : ℕ). n % 2) (shl-shr 1 c)
-
--- and no digit below it
-pub digit_under_power : (d k : ℕ) → 2 ^ (suc k + d) / 2 ^ d % 2 ≡ 0
-digit_under_power d k =
-    ap (λ (n : ℕ). n / 2 ^ d % 2) (pow-add 2 (suc k) d) ∙ ap (λ (n : ℕ). n % 2) (shl-shr (2 ^ suc k) d)
-    ∙ ap (λ (n : ℕ). n % 2) (omega arith) ∙ shifted_even 1 k
 
 -- numbers of k digits that agree in each are equal
 pub same_digits : (k a b : ℕ) → a < 2 ^ k → b < 2 ^ k → ((c : ℕ) → a / 2 ^ c % 2 ≡ b / 2 ^ c % 2) → a ≡ b

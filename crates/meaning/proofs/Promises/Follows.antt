@@ -1,5 +1,6 @@
 -- Events taken one by one along the ways, up to the first without one, are what Follow promises: for every run that stands at the
 -- first spot, so many events are taken, with that verdict, and the state after them is that of the last spot.
+use Rattle.std.specs.Prelude.{Ok}
 use mathlib.Core.Path.{◌≡◌, refl, sym, subst, subst⁻¹}
 use mathlib.Core.List.{List, [], ◌∷◌, ◌++◌, append_assoc, append-nil}
 use Prim.Native.Nat.{ℕ, zero, suc, ◌+◌, ◌≤◌, ◌<◌}
@@ -7,7 +8,7 @@ use native.Mathlib.Omega.{arith}
 use lib.ListN.{length, take, drop, get_or, drop_of_length-le}
 use lib.Seq.{drop-cons}
 use Rattle.meaning.specs.declared.Verdict.{Verdict}
-use Rattle.meaning.specs.declared.FollowAnswer.TheVariants as follow
+use Rattle.meaning.specs.Answers.{went_on}
 use Rattle.meaning.specs.Expr.{Expr, event, Part, Bounded}
 use Rattle.meaning.specs.Word.{Word, Begins}
 use Rattle.meaning.specs.Strong.{StronglyDeterministic}
@@ -82,10 +83,6 @@ pub record Gone (e : Expr) (k : Spot e) (events : List ℕ) (i : ℕ) (j : Spot 
 from_here : (events : List ℕ) (i c : ℕ) → i < length events → get_or events i 0 ≡ c → drop i events ≡ c ∷ drop (suc i) events
 from_here events i c h code = subst (λ (b : ℕ). drop i events ≡ b ∷ drop (suc i) events) code (drop-cons events i 0 h)
 
--- at first none is taken
-pub gone_none : (e : Expr) (k : Spot e) (events : List ℕ) → Gone e k events 0 k
-gone_none e k events = record { onward = λ n l g. subst (λ (m : ℕ). Going e k events m l) (omega arith) g }
-
 -- one more, by a way to an event node with its code
 pub gone_more : (e : Expr) (k j : Spot e) (events : List ℕ) (i c q : ℕ) (t : Place e) → Gone e k events i j → i < length events
     → get_or events i 0 ≡ c → Part 0 e q (event c) → LeadsTo e j q t → Gone e k events (i + 1) (behind t)
@@ -116,7 +113,7 @@ gone_stuck e k j events i c g h code n =
 -- the answer for the state's bytes of the first spot is what its events come to along the ways
 pub going_follows : (f state events : List ℕ) (e : Expr) (k j : Spot e) (t : ℕ) (v : Verdict) → Admitted f e → Safe e k
     → state ≡ state_bytes (spot_state e k) → Going e k events t j → VerdictAt e j t (length events) v
-    → Follows f state events (follow.Followed t v) (state_bytes (spot_state e j))
+    → Follows f state events (Ok (went_on t v)) (state_bytes (spot_state e j))
 going_follows f state events e k j t v a s b g verdict =
     let h = a.holds in
     let u = (bytes_reached_iff e (holds_bounded h) state).1 (k, s, b) in

@@ -1,9 +1,10 @@
 -- The prompt never hides a step: every code that continues a run is lit where the run stands. Assumes nothing.
+use Rattle.std.specs.Prelude.{Ok}
 use mathlib.Core.Path.{◌≡◌, refl, sym, ap, subst, ◌∙◌}
 use mathlib.Core.List.{List, [], ◌∷◌, ◌++◌, append_assoc}
 use Prim.Native.Nat.{ℕ, ◌+◌}
 use native.Mathlib.Numerals.{add-one}
-use Rattle.meaning.specs.declared.PromptAnswer.TheVariants as prompt
+use Rattle.meaning.specs.Answers.{words}
 use Rattle.meaning.specs.Bytes.{two_at}
 use Rattle.meaning.specs.Codes.{Has, in_words}
 use Rattle.meaning.specs.Expr.{Expr, Bounded}
@@ -72,7 +73,7 @@ continues_lit e h d u z c r b =
     (subst (λ (a : ℕ). Lights e (spot_node e k.to.0) a) next.1.1 (move_lit e h k.to.0 next.0 next.1.0))
 
 -- so it is in the set that Prompt gives
-pub prompt_hides_nothing : (f state : List ℕ) (low high : ℕ) → Prompts f state (prompt.Lit low high) → (e : Expr) → Admitted f e
+pub prompt_hides_nothing : (f state : List ℕ) (low high : ℕ) → Prompts f state (Ok (words low high)) → (e : Expr) → Admitted f e
     → (u : List ℕ) → ReachesBytes e u state → (c : ℕ) → Begins e (u ++ (c ∷ [])) → Has (in_words low high) c
 prompt_hides_nothing f state low high (Prompts.lit d v low' high' told came set) e admitted u r c b =
     let same = admitted_unique f d e told admitted in

@@ -5,10 +5,10 @@ use mathlib.Core.Logic.{◌↔◌}
 use mathlib.Core.List.{List, []}
 use Prim.Native.Nat.{ℕ, zero, suc, ◌≤◌}
 use native.Mathlib.Omega.{arith}
-use Rattle.meaning.specs.declared.JudgeAnswer.{JudgeAnswer}
-use Rattle.meaning.specs.declared.PromptAnswer.{PromptAnswer}
+use Rattle.meaning.specs.Answers.{JudgeAnswer, PromptAnswer}
 use Rattle.meaning.specs.Bytes.{two_at}
 use Rattle.meaning.specs.Codes.{most_code}
+use Rattle.meaning.specs.Conflict.{kind_number}
 use Rattle.meaning.specs.Expr.{Expr, event, Part, Bounded}
 use Rattle.meaning.specs.Node.{node, InTable, InTableTo, empty_line, event_line, choice_line, sequence_line, repeat_line}
 use Rattle.meaning.specs.File.{Holds, malformed, conflicting}
@@ -62,8 +62,8 @@ prompt_high_zero f state few out p = ap (λ (n : PromptNumbers). n.high) p.2 ∙
 shared_high_zero : (f : List ℕ) → LowCodes f → (a : JudgeAnswer) → Judges f a → (judge_numbers a).high ≡ 0
 shared_high_zero f few a (Judges.admitted e p) = refl
 shared_high_zero f few a (Judges.refused r (malformed p)) = ap (λ (n : JudgeNumbers). n.high) (refused_plain p)
-shared_high_zero f few a (Judges.refused r (conflicting e i k c low high n p l s)) =
-    high_word_zero s.set (λ d h. let q = conflict_code e i k d h in few e p q.0 d q.1)
+shared_high_zero f few a (Judges.refused r (conflicting e i k c w n p l s)) =
+    high_word_zero s.set (λ d h. let q = conflict_code e i (kind_number k) d h in few e p q.0 d q.1)
 
 pub judge_high_zero : (f : List ℕ) → LowCodes f → (out : JudgeNumbers) → JudgePromise f out → out.high ≡ 0
 unfolding JudgePromise

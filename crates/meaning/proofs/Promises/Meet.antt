@@ -1,5 +1,6 @@
 -- The calls meet: what Write writes Check accepts; what Check accepts Follow calls complete, and Write gives again byte for byte. Records
 -- that Check accepts agree as far as their codes do, and a complete run has one. Each theorem speaks of whatever keeps the promises.
+use Rattle.std.specs.Prelude.{true, Ok}
 use mathlib.Core.Path.{◌≡◌, refl, sym, ap, ◌∙◌, subst, subst⁻¹}
 use mathlib.Core.List.{List, [], ◌++◌, append-nil}
 use Prim.Native.Nat.{ℕ, ◌≤◌}
@@ -9,12 +10,7 @@ use lib.ListN.{length, take, drop, replicate}
 use lib.Seq.{take-length, take-append_seam}
 use Rattle.meaning.specs.declared.Verdict.{Verdict}
 use Rattle.meaning.specs.declared.Verdict.TheVariants.{Complete}
-use Rattle.meaning.specs.declared.FollowAnswer.{FollowAnswer}
-use Rattle.meaning.specs.declared.FollowAnswer.TheVariants as follow
-use Rattle.meaning.specs.declared.WriteAnswer.{WriteAnswer}
-use Rattle.meaning.specs.declared.WriteAnswer.TheVariants as write
-use Rattle.meaning.specs.declared.CheckAnswer.{CheckAnswer}
-use Rattle.meaning.specs.declared.CheckAnswer.TheVariants as check
+use Rattle.meaning.specs.Answers.{CheckAnswer, FollowAnswer, WriteAnswer, went_on}
 use Rattle.meaning.specs.Expr.{Expr, size}
 use Rattle.meaning.specs.Word.{Word}
 use Rattle.meaning.specs.Reading.{Item, Reading, codes, up_to}
@@ -38,14 +34,14 @@ start_bytes = replicate 66 0
 
 -- Check accepts the bytes, and they are the record of the items, a reading of the expression
 pub record Accepted (f : List ℕ) (e : Expr) (bytes : List ℕ) (x : List Item) : Type 0 where
-  pub yes : Checks f bytes check.Yes
+  pub yes : Checks f bytes (Ok true)
   pub reading : Reading 0 e x
   pub bytes_are : bytes ≡ record_bytes x
 
 -- ---- Check
 
 -- bytes that Check accepts are the record of one reading
-pub accepted_one_reading : (f : List ℕ) (e : Expr) (bytes : List ℕ) → Holds f e → Checks f bytes check.Yes
+pub accepted_one_reading : (f : List ℕ) (e : Expr) (bytes : List ℕ) → Holds f e → Checks f bytes (Ok true)
     → (x : List Item) × Accepted f e bytes x × ((y : List Item) → Accepted f e bytes y → y ≡ x)
 accepted_one_reading f e bytes h (Checks.yes d x g r b) =
     let reading = subst (λ (o : Expr). Reading 0 o x) (holds_unique f d e g h) r in
@@ -63,7 +59,7 @@ starts {e = e} adm = (start_state e, reaches_start e (holds_bounded adm.holds), 
 
 -- from there the answer speaks of the events given alone
 from_start : {f : List ℕ} {e : Expr} → Admitted f e → (events : List ℕ) (t : ℕ) (v : Verdict) (after : List ℕ)
-    → Follows f start_bytes events (follow.Followed t v) after → GoesOn e [] events t v after
+    → Follows f start_bytes events (Ok (went_on t v)) after → GoesOn e [] events t v after
 from_start {f} {e} adm events t v after (Follows.followed d u n w z o r g) =
     subst (λ (c : Expr). GoesOn c [] events t v after) (admitted_unique f d e o adm) (g [] (starts o))
 
@@ -75,16 +71,16 @@ whole_complete e w t v word all (broken h) = absurd (omega arith)
 
 -- a word is taken whole
 word_complete : (e : Expr) (w : List ℕ) (t : ℕ) (v : Verdict) (after : List ℕ) → Word e w → GoesOn e [] w t v after
-    → follow.Followed t v ≡ follow.Followed (length w) Complete
+    → ◌≡◌ {A = FollowAnswer} (Ok (went_on t v)) (Ok (went_on (length w) Complete))
 word_complete e w t v after word g =
     let whole = subst⁻¹ (Word e) (append-nil (take (length w) w) ∙ take-length w) word in
     let all = le_antisymm g.taken.within (g.taken.longest (length w) (omega arith) ([], whole)) in
     let verdict = whole_complete e w t v word all g.verdict in
-    λ i. follow.Followed (all i) (verdict i)
+    λ i. Ok (went_on (all i) (verdict i))
 
 -- what Check accepts, Follow calls complete
 pub accepted_complete : (f : List ℕ) (e : Expr) (bytes : List ℕ) (x : List Item) → Admitted f e → Accepted f e bytes x
-    → (a : FollowAnswer) (after : List ℕ) → Follows f start_bytes (codes x) a after → a ≡ follow.Followed (length (codes x)) Complete
+    → (a : FollowAnswer) (after : List ℕ) → Follows f start_bytes (codes x) a after → a ≡ Ok (went_on (length (codes x)) Complete)
 accepted_complete f e bytes x adm k a after (Follows.refused r b) = absurd (admitted_not_barred f e r adm b)
 accepted_complete f e bytes x adm k a after (Follows.unreached d o n) = absurd (n [] (starts o))
 accepted_complete f e bytes x adm k a after (Follows.followed d u t v z o r g) =
@@ -94,19 +90,19 @@ accepted_complete f e bytes x adm k a after (Follows.followed d u t v z o r g) =
 -- ---- Write
 
 -- what Write writes, Check accepts
-pub written_accepted : (f run space : List ℕ) (n : ℕ) (after : List ℕ) (a : CheckAnswer) → Writes f run space (write.Written n) after
-    → Checks f (take n after) a → a ≡ check.Yes
+pub written_accepted : (f run space : List ℕ) (n : ℕ) (after : List ℕ) (a : CheckAnswer) → Writes f run space (Ok n) after
+    → Checks f (take n after) a → a ≡ (Ok true)
 written_accepted f run space n after a (Writes.written e x adm l r c room) k =
-    checks_unique f (take n after) a check.Yes k (Checks.yes e x adm.holds r (take-append_seam (record_bytes x) _))
+    checks_unique f (take n after) a (Ok true) k (Checks.yes e x adm.holds r (take-append_seam (record_bytes x) _))
 
 -- on the codes of what Check accepts, Write gives the same bytes
 pub accepted_written : (f : List ℕ) (e : Expr) (bytes : List ℕ) (x : List Item) → Admitted f e → Accepted f e bytes x
     → length (codes x) ≤ 65536 → (space : List ℕ) → length bytes ≤ length space → (a : WriteAnswer) (after : List ℕ)
-    → Writes f (codes x) space a after → (a ≡ write.Written (length bytes)) × (after ≡ bytes ++ drop (length bytes) space)
+    → Writes f (codes x) space a after → (a ≡ Ok (length bytes)) × (after ≡ bytes ++ drop (length bytes) space)
 accepted_written f e bytes x adm k l space room a after p =
     let same = k.bytes_are in
     let fits = subst (λ (b : List ℕ). length b ≤ length space) same room in
-    subst⁻¹ (λ (b : List ℕ). (a ≡ write.Written (length b)) × (after ≡ b ++ drop (length b) space)) same
+    subst⁻¹ (λ (b : List ℕ). (a ≡ Ok (length b)) × (after ≡ b ++ drop (length b) space)) same
     (writes_unique f (codes x) space a _ after _ p (Writes.written e x adm l k.reading refl fits))
 
 -- ---- two records
@@ -152,7 +148,7 @@ reading_one_record {f} {e} run bytes x adm r c b =
 
 -- a run that Follow calls complete has one
 pub complete_one_record : (f : List ℕ) (e : Expr) (run : List ℕ) (t : ℕ) (after : List ℕ) → Admitted f e
-    → Follows f start_bytes run (follow.Followed t Complete) after → (bytes : List ℕ) × OneRecordOfRun f e run bytes
+    → Follows f start_bytes run (Ok (went_on t Complete)) after → (bytes : List ℕ) × OneRecordOfRun f e run bytes
 complete_one_record f e run t after adm p = one (from_start adm run t Complete after p).verdict
   where
     one : VerdictOf e [] run t Complete → (bytes : List ℕ) × OneRecordOfRun f e run bytes
@@ -162,7 +158,7 @@ complete_one_record f e run t after adm p = one (from_start adm run t Complete a
 
 -- and the one that Write writes is it
 pub written_one_record : (f : List ℕ) (e : Expr) (run space : List ℕ) (n : ℕ) (after : List ℕ) → Admitted f e
-    → Writes f run space (write.Written n) after → OneRecordOfRun f e run (take n after)
+    → Writes f run space (Ok n) after → OneRecordOfRun f e run (take n after)
 written_one_record f e run space n after adm (Writes.written d x o l r c room) =
     let reading = subst (λ (z : Expr). Reading 0 z x) (admitted_unique f d e o adm) r in
     reading_one_record run (take n after) x adm reading c (take-append_seam (record_bytes x) (drop (length (record_bytes x)) space))

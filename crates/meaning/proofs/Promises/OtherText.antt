@@ -4,11 +4,7 @@ use mathlib.Core.Logic.{◌↔◌}
 use mathlib.Core.List.{List}
 use Prim.Native.Nat.{ℕ}
 use Rattle.meaning.specs.declared.Refusal.{Refusal}
-use Rattle.meaning.specs.declared.JudgeAnswer.{JudgeAnswer}
-use Rattle.meaning.specs.declared.FollowAnswer.{FollowAnswer}
-use Rattle.meaning.specs.declared.WriteAnswer.{WriteAnswer}
-use Rattle.meaning.specs.declared.CheckAnswer.{CheckAnswer}
-use Rattle.meaning.specs.declared.PromptAnswer.{PromptAnswer}
+use Rattle.meaning.specs.Answers.{CheckAnswer, FollowAnswer, JudgeAnswer, PromptAnswer, WriteAnswer}
 use Rattle.meaning.specs.Expr.{Expr}
 use Rattle.meaning.specs.File.{Barred, malformed, conflicting, Admitted, SameButText}
 use Rattle.meaning.specs.Numbers.{JudgeNumbers, FollowNumbers, WriteNumbers, CheckNumbers, PromptNumbers}
@@ -20,7 +16,7 @@ use Rattle.meaning.proofs.File.FreeText.{ReadAlike, text_read_alike}
 module _ {f g : List ℕ} (a : ReadAlike f g) where
   barred_too : (r : Refusal) → Barred f r → Barred g r
   barred_too r (malformed p) = malformed ((a.refused r).0 p)
-  barred_too r (conflicting e i k c low high n p l s) = conflicting e i k c low high n ((a.holds e).0 p) l s
+  barred_too r (conflicting e i k c w n p l s) = conflicting e i k c w n ((a.holds e).0 p) l s
 
   admitted_too : (e : Expr) → Admitted f e → Admitted g e
   admitted_too e p = record { holds = (a.holds e).0 p.holds; strong = p.strong }

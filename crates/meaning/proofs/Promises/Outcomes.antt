@@ -1,4 +1,5 @@
 -- Each of the five promises has at most one outcome, for every input.
+use Rattle.std.specs.Prelude.{Ok, Err}
 use mathlib.Core.Path.{◌≡◌, refl, sym, ap, ap₂, ◌∙◌, subst}
 use mathlib.Core.List.{List, ◌++◌}
 use Prim.Native.Nat.{ℕ, ◌≤◌, ◌<◌}
@@ -6,16 +7,7 @@ use native.Mathlib.Omega.{arith}
 use native.Mathlib.Nat.{le_antisymm}
 use lib.ListN.{length, take, drop}
 use Rattle.meaning.specs.declared.Verdict.{Verdict}
-use Rattle.meaning.specs.declared.JudgeAnswer.{JudgeAnswer}
-use Rattle.meaning.specs.declared.JudgeAnswer.TheVariants as judge
-use Rattle.meaning.specs.declared.FollowAnswer.{FollowAnswer}
-use Rattle.meaning.specs.declared.FollowAnswer.TheVariants as follow
-use Rattle.meaning.specs.declared.WriteAnswer.{WriteAnswer}
-use Rattle.meaning.specs.declared.WriteAnswer.TheVariants as write
-use Rattle.meaning.specs.declared.CheckAnswer.{CheckAnswer}
-use Rattle.meaning.specs.declared.CheckAnswer.TheVariants as check
-use Rattle.meaning.specs.declared.PromptAnswer.{PromptAnswer}
-use Rattle.meaning.specs.declared.PromptAnswer.TheVariants as prompt
+use Rattle.meaning.specs.Answers.{CheckAnswer, FollowAnswer, JudgeAnswer, PromptAnswer, WriteAnswer, went_on, words}
 use Rattle.meaning.specs.Expr.{Expr}
 use Rattle.meaning.specs.Word.{Word}
 use Rattle.meaning.specs.Strong.{StronglyDeterministic}
@@ -41,7 +33,7 @@ admitted_unique f e d a b = holds_unique f e d a.holds b.holds
 -- ---- Judge
 
 judges_unique : (f : List ℕ) (a b : JudgeAnswer) → Judges f a → Judges f b → a ≡ b
-judges_unique f a b (Judges.refused r x) (Judges.refused q y) = ap judge.Refused (barred_unique f r q x y)
+judges_unique f a b (Judges.refused r x) (Judges.refused q y) = ap Err (barred_unique f r q x y)
 judges_unique f a b (Judges.refused r x) (Judges.admitted e y) = absurd (admitted_not_barred f e r y x)
 judges_unique f a b (Judges.admitted e x) (Judges.refused q y) = absurd (admitted_not_barred f e q x y)
 judges_unique f a b (Judges.admitted e x) (Judges.admitted d y) = refl
@@ -72,16 +64,16 @@ state_unique e d u z y a b = a.2 ∙ ap state_bytes (one_state e d u a.0 b.0 a.1
 
 -- a run goes on in one way
 goes_on_unique : (e : Expr) → StronglyDeterministic e → (u events : List ℕ) (t n : ℕ) (v w : Verdict) (z y : List ℕ)
-    → GoesOn e u events t v z → GoesOn e u events n w y → (follow.Followed t v ≡ follow.Followed n w) × (z ≡ y)
+    → GoesOn e u events t v z → GoesOn e u events n w y → (◌≡◌ {A = FollowAnswer} (Ok (went_on t v)) (Ok (went_on n w))) × (z ≡ y)
 goes_on_unique e d u events t n v w z y a b =
     let same = takes_unique e u events t n a.taken b.taken in
     let verdict = subst (λ (k : ℕ). VerdictOf e u events k v) same a.verdict in
     let state = subst (λ (k : ℕ). ReachesBytes e (u ++ take k events) z) same a.state in
     let verdicts = verdict_unique e u events n v w verdict b.verdict in
-    (λ i. follow.Followed (same i) (verdicts i), state_unique e d (u ++ take n events) z y state b.state)
+    (λ i. Ok (went_on (same i) (verdicts i)), state_unique e d (u ++ take n events) z y state b.state)
 
 pub follows_unique : (f state events : List ℕ) (a b : FollowAnswer) (z y : List ℕ) → Follows f state events a z → Follows f state events b y → (a ≡ b) × (z ≡ y)
-follows_unique f state events a b z y (Follows.refused r p) (Follows.refused q o) = (ap follow.Refused (barred_unique f r q p o), refl)
+follows_unique f state events a b z y (Follows.refused r p) (Follows.refused q o) = (ap Err (barred_unique f r q p o), refl)
 follows_unique f state events a b z y (Follows.refused r p) (Follows.unreached e o n) = absurd (admitted_not_barred f e r o p)
 follows_unique f state events a b z y (Follows.refused r p) (Follows.followed e u t v after o n g) = absurd (admitted_not_barred f e r o p)
 follows_unique f state events a b z y (Follows.unreached e o n) (Follows.refused q p) = absurd (admitted_not_barred f e q o p)
@@ -121,7 +113,7 @@ no_fit : {x y : List Item} {n : ℕ} → x ≡ y → n < length (record_bytes x)
 no_fit {x} {y} {n} e l m = let k = subst (λ (z : List Item). n < length (record_bytes z)) e l in omega arith
 
 pub writes_unique : (f run space : List ℕ) (a b : WriteAnswer) (z y : List ℕ) → Writes f run space a z → Writes f run space b y → (a ≡ b) × (z ≡ y)
-writes_unique f run space a b z y (Writes.refused r p) (Writes.refused q o) = (ap write.Refused (barred_unique f r q p o), refl)
+writes_unique f run space a b z y (Writes.refused r p) (Writes.refused q o) = (ap Err (barred_unique f r q p o), refl)
 writes_unique f run space a b z y (Writes.refused r p) (Writes.too_long e o n) = absurd (admitted_not_barred f e r o p)
 writes_unique f run space a b z y (Writes.refused r p) (Writes.incomplete e o l n) = absurd (admitted_not_barred f e r o p)
 writes_unique f run space a b z y (Writes.refused r p) (Writes.no_room e x o l m c n) = absurd (admitted_not_barred f e r o p)
@@ -149,7 +141,7 @@ writes_unique f run space a b z y (Writes.written e x o l m c n) (Writes.no_room
     absurd (no_fit (one_reading p g h o m c) j n)
 writes_unique f run space a b z y (Writes.written e x o l m c n) (Writes.written d w p k g h j) =
     let same = one_reading o m c p g h in
-    (ap (λ (v : List Item). write.Written (length (record_bytes v))) same, ap (λ (v : List Item). record_bytes v ++ drop (length (record_bytes v)) space) same)
+    (ap (λ (v : List Item). Ok (length (record_bytes v))) same, ap (λ (v : List Item). record_bytes v ++ drop (length (record_bytes v)) space) same)
 
 pub write_one_outcome : (f run space : List ℕ) (out other : WriteNumbers) (z y : List ℕ)
     → WritePromise f run space out z → WritePromise f run space other y → (out ≡ other) × (z ≡ y)
@@ -161,7 +153,7 @@ write_one_outcome f run space out other z y p q =
 -- ---- Check
 
 pub checks_unique : (f bytes : List ℕ) (a b : CheckAnswer) → Checks f bytes a → Checks f bytes b → a ≡ b
-checks_unique f bytes a b (Checks.refused r p) (Checks.refused q o) = ap check.Refused (refused_unique f r q p o)
+checks_unique f bytes a b (Checks.refused r p) (Checks.refused q o) = ap Err (refused_unique f r q p o)
 checks_unique f bytes a b (Checks.refused r p) (Checks.yes e x h m n) = absurd (holds_not_refused f e r h p)
 checks_unique f bytes a b (Checks.refused r p) (Checks.no e h n) = absurd (holds_not_refused f e r h p)
 checks_unique f bytes a b (Checks.yes e x h m n) (Checks.refused q o) = absurd (holds_not_refused f e q h o)
@@ -180,7 +172,7 @@ check_one_outcome f bytes out other p q = p.2 ∙ ap check_numbers (checks_uniqu
 -- ---- Prompt
 
 prompts_unique : (f state : List ℕ) (a b : PromptAnswer) → Prompts f state a → Prompts f state b → a ≡ b
-prompts_unique f state a b (Prompts.refused r p) (Prompts.refused q o) = ap prompt.Refused (barred_unique f r q p o)
+prompts_unique f state a b (Prompts.refused r p) (Prompts.refused q o) = ap Err (barred_unique f r q p o)
 prompts_unique f state a b (Prompts.refused r p) (Prompts.unreached e o n) = absurd (admitted_not_barred f e r o p)
 prompts_unique f state a b (Prompts.refused r p) (Prompts.lit e u low high o n s) = absurd (admitted_not_barred f e r o p)
 prompts_unique f state a b (Prompts.unreached e o n) (Prompts.refused q p) = absurd (admitted_not_barred f e q o p)
@@ -192,7 +184,7 @@ prompts_unique f state a b (Prompts.lit e u low high o n s) (Prompts.unreached d
     absurd (k u (subst (λ (x : Expr). ReachesBytes x u state) (admitted_unique f e d o p) n))
 prompts_unique f state a b (Prompts.lit e u low high o n s) (Prompts.lit d v low' high' p k t) =
     let same = set_unique s (subst (λ (x : Expr). SetInWords (Lights x (two_at state 0)) low' high') (admitted_unique f d e p o) t) in
-    ap₂ prompt.Lit same.0 same.1
+    ap₂ (λ (l h : ℕ). Ok (words l h)) same.0 same.1
 
 pub prompt_one_outcome : (f state : List ℕ) (out other : PromptNumbers) → PromptPromise f state out → PromptPromise f state other → out ≡ other
 unfolding PromptPromise

@@ -1,11 +1,11 @@
 -- A record takes at most 130 bytes for each event of its run: an event, and an opening and a closing of each of 32 repeats.
+use Rattle.std.specs.Prelude.{Err}
 use mathlib.Core.Path.{◌≡◌, ap, ◌∙◌}
 use mathlib.Core.List.{List, [], ◌∷◌, ◌++◌, map}
 use Prim.Native.Nat.{ℕ, ◌+◌, ◌*◌, ◌≤◌, ◌<◌}
 use native.Mathlib.Nat.{le_trans, mul-add, mul-le-mul_right}
 use native.Mathlib.Omega.{arith}
 use lib.ListN.{length, length-append, length-map}
-use Rattle.meaning.specs.declared.WriteAnswer.TheVariants as write
 use Rattle.meaning.specs.declared.Refusal.TheVariants.{Room}
 use Rattle.meaning.specs.Expr.{Expr, empty, event, choice, sequence, repeat, size}
 use Rattle.meaning.specs.File.{Holds}
@@ -71,6 +71,6 @@ record_within f e h x r =
     omega (arith, twos_length (map item_number x), length-map x item_number)
 
 -- so a space with 130 bytes for each event is never too short
-pub room_enough : (f run space after : List ℕ) → Writes f run space (write.Refused Room) after → length space < 130 * length run
+pub room_enough : (f run space after : List ℕ) → Writes f run space (Err Room) after → length space < 130 * length run
 room_enough f run space after (Writes.no_room e x a l r c short) = omega (arith, record_within f e a.holds x r, ap length c)
 room_enough f run space after (Writes.refused r b) = absurd (omega (arith, barred_number f Room b))

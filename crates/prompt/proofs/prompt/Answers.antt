@@ -1,8 +1,8 @@
--- `prompt::prompt` meets its contract. Assumes nothing.
+-- `prompt::prompt` meets its contract: what bars the file refuses the prompt.
+use Rattle.std.proofs.lemmas.Result.{err_from_is_err_and}
 use Rattle.meaning.specs.Promises.{Prompts}
-use Rattle.judge.proofs.Entering.{barred}
 use Rattle.prompt.proofs.prompt.Goals as goal
 
-pub returns-in-Refused : goal.returns-in-Refused
-returns-in-Refused c =
-    Prompts.refused _ (barred c.args.file.now _ _ _ _ _ c.admit.result c.admit.ensures _ c.in-Refused.is)
+pub returns-in_err-admit : goal.returns-in_err-admit
+returns-in_err-admit c =
+    let p = err_from_is_err_and c.from_residual.result c.from_residual.ensures.1 in rw (p.1, p.2) (Prompts.refused _ c.in_err-admit.ensures)

@@ -1,14 +1,14 @@
 -- `seqp::seq_write` meets its promise: each arm gives the numbers of its answer, and the space as Write leaves it. Assumes nothing.
 use mathlib.Core.Path.{refl}
-use Rattle.meaning.specs.Numbers.{write_numbers, wrote}
+use Rattle.std.specs.Prelude.{Ok, Err}
+use Rattle.meaning.specs.Numbers.{wrote}
 use Rattle.meaning.specs.Promises.{WritePromise}
-use Rattle.seqp.proofs.Laws.{arm}
 use Rattle.seqp.proofs.seq_write.Goals as goal
 
-pub returns-in-Written : goal.returns-in-Written
+pub returns-in-Ok : goal.returns-in-Ok
 unfolding WritePromise
-returns-in-Written c = arm write_numbers c.write.ensures c.in-Written.is refl
+returns-in-Ok c = (Ok c.in-Ok.bytes, c.in-Ok.ensures, refl)
 
-pub returns-in-Refused : goal.returns-in-Refused
+pub returns-in-Err : goal.returns-in-Err
 unfolding WritePromise
-returns-in-Refused c = arm write_numbers c.write.ensures c.in-Refused.is (λ i. wrote (c.number_of.ensures i) 0)
+returns-in-Err c = (Err c.in-Err.refusal, c.in-Err.ensures, λ i. wrote (c.number_of.ensures i) 0)

@@ -1,31 +1,19 @@
--- `steps::can_end` meets its contract. Assumes nothing.
-use mathlib.Core.Path.{refl}
+-- `steps::can_end` meets its contract: the climb towards no node ends exactly if the way does. Assumes nothing.
+use mathlib.Core.Path.{◌≡◌, refl}
+use mathlib.Core.Bool.{true, false}
 use native.Mathlib.Nat.{le_refl}
+use Rattle.std.proofs.Common.{rules}
+use Rattle.steps.specs.declared.climb.Turn.TheVariants.{Ends}
 use Rattle.plan.proofs.Beginnings.{past}
-use Rattle.steps.proofs.Stepping.{end_yes, end_no, at_not_ends, stuck_not_ends}
-use Rattle.plan.proofs.Whole.{rises}
+use Rattle.steps.proofs.Stepping.{end_by_test}
 use Rattle.steps.proofs.can_end.Goals as goal
 
-pub climb-requires-clause-rises : goal.climb-requires-clause-rises
-climb-requires-clause-rises c = rises c.requires.plans.1
-
-pub returns-in-At : goal.returns-in-At
-returns-in-At c =
-    let a = c.args in
-    λ e p pl here m.
-    end_no a.nodes.now a.starts.now a.nulls.now a.plan.now a.counts.now a.n a.n a.at _ e p pl here m c.climb.ensures (past (le_refl a.n)) refl
-    (at_not_ends c.in-At.is)
-
-pub returns-in-Ends : goal.returns-in-Ends
-returns-in-Ends c =
-    let a = c.args in
-    λ e p pl here m.
-    end_yes a.nodes.now a.starts.now a.nulls.now a.plan.now a.counts.now a.n a.n a.at _ e p pl here m c.climb.ensures (past (le_refl a.n)) refl
-    c.in-Ends.is
-
-pub returns-in-Stuck : goal.returns-in-Stuck
-returns-in-Stuck c =
-    let a = c.args in
-    λ e p pl here m.
-    end_no a.nodes.now a.starts.now a.nulls.now a.plan.now a.counts.now a.n a.n a.at _ e p pl here m c.climb.ensures (past (le_refl a.n)) refl
-    (stuck_not_ends c.in-Stuck.is)
+pub returns : goal.returns
+returns c =
+    let p = c.args.plan.now in
+    let f = p.procedure.now in
+    let yes : c.eq.result ≡ true → c.climb.result ≡ Ends = λ e. search rules in
+    let no : c.eq.result ≡ false → c.climb.result ≡ Ends → ⊥ = λ e i. search rules in
+    λ e at pl here m.
+    end_by_test f.nodes f.starts f.nulls p.links.now c.args.counts.now f.count f.count c.args.at _ e at pl here m c.climb.ensures _ (past (le_refl f.count)) refl
+    yes no

@@ -1,88 +1,51 @@
 -- `write::write_run` meets its contract, by what the two walks lay of the run. Assumes nothing.
-use mathlib.Core.Path.{◌≡◌, sym, subst}
-use Prim.Native.Nat.{ℕ, ◌+◌, ◌-◌, ◌≤◌}
+use mathlib.Core.Path.{◌∙◌}
 use native.Mathlib.Omega.{arith}
-use lib.ListN.{length}
-use Rattle.meaning.specs.Sets.{First}
-use Rattle.procedure.specs.Entry.{held}
-use Rattle.procedure.specs.Listing.{TellsNulls}
-use Rattle.procedure.proofs.Nodes.{one_of}
+use Rattle.std.proofs.lemmas.Result.{err_from_is_err_and}
 use Rattle.procedure.proofs.Nodes.{listing_some}
-use Rattle.sets.specs.Tables.{TellsSets}
-use Rattle.write.specs.declared.lay.Laid.TheVariants.{To}
-use Rattle.write.specs.Lay.{Advances}
-use Rattle.write.proofs.Laid.{Short}
-use Rattle.write.proofs.Writing.{few_items, walk_leeway, writes_all, writes_incomplete, writes_no_room, writes_too_long}
+use Rattle.write.proofs.Writing.{few_items, told_incomplete, walk_leeway, writes_all, writes_no_room, writes_part, writes_too_long, writes_unlaid}
 use Rattle.write.proofs.write_run.Goals as goal
 
-pub returns-then-run-gt-LONGEST : goal.returns-then-run-gt-LONGEST
-returns-then-run-gt-LONGEST c = λ f x o l. writes_too_long o l c.args.run.now c.args.space.now (omega (arith, c.if-run-gt-LONGEST.true))
+pub returns-then-events-gt-LONGEST : goal.returns-then-events-gt-LONGEST
+returns-then-events-gt-LONGEST c = λ f e o l. writes_too_long c.args.source.now o l c.if-events-gt-LONGEST.true
 
-pub overflow_sub-n : goal.overflow_sub-n
-overflow_sub-n c =
-    let few : (1 ≤ c.args.n) × (c.args.n ≤ 512) = let l = c.requires.listing.1 in (listing_some l, l.few) in
-    few.0
+pub overflow_sub-root : goal.overflow_sub-root
+overflow_sub-root c = listing_some c.requires.lists
 
--- the last of n numbers, where there are some
-last : (n : ℕ) → 1 ≤ n → n ≡ n - 1 + 1
-last n some = omega arith
-
-pub lay-requires-clause-one_of : goal.lay-requires-clause-one_of
-lay-requires-clause-one_of c = let some = listing_some c.requires.listing.1 in one_of c.requires.listing.1 (c.args.n - 1) (omega arith)
-
-pub lay-requires-clause-tells_nulls : goal.lay-requires-clause-tells_nulls
-lay-requires-clause-tells_nulls c = subst (TellsNulls (held c.args.nodes.now) _) (last c.args.n (listing_some c.requires.listing.1)) c.requires.tells_nulls
-
-pub lay-requires-clause-tells_sets : goal.lay-requires-clause-tells_sets
-lay-requires-clause-tells_sets c = subst (TellsSets First (held c.args.nodes.now) _) (last c.args.n (listing_some c.requires.listing.1)) c.requires.tells_sets
+pub lay-requires-clause-below : goal.lay-requires-clause-below
+lay-requires-clause-below c = omega (arith, listing_some c.requires.lists)
 
 pub lay-requires-clause-leeway : goal.lay-requires-clause-leeway
-lay-requires-clause-leeway c = walk_leeway c.args.run.now c.args.n c.requires.listing.1.few (omega (arith, c.if-run-gt-LONGEST.false))
+lay-requires-clause-leeway c = walk_leeway c.requires c.if-events-gt-LONGEST.false
 
-pub returns-in_default : goal.returns-in_default
-returns-in_default c =
-    let short : length c.args.run.now ≤ 65536 = omega (arith, c.if-run-gt-LONGEST.false) in
-    λ f x o l. writes_incomplete o l c.args.run.now short _ _ c.args.space.now c.lay.result c.lay.ensures.lays_at c.lay.ensures.advances
-    (subst (Short c.args.run.now) (sym c.in_default.is) tt)
+pub returns-in_err-end : goal.returns-in_err-end
+returns-in_err-end c = λ f e o l.
+    let p = err_from_is_err_and c.from_residual.result c.from_residual.ensures.1 in
+    let refusal = told_incomplete c.lay.result _ c.in_err-end.ensures.value in
+    let laid = rw c.in_err-end.ensures.ok_part at c.lay.ensures.lays_at in
+    rw (p.1, p.2 ∙ refusal) (writes_unlaid c.args.source.now o l c.if-events-gt-LONGEST.false laid)
 
-pub returns-then-events-run : goal.returns-then-events-run
-returns-then-events-run c =
-    let short : length c.args.run.now ≤ 65536 = omega (arith, c.if-run-gt-LONGEST.false) in
-    λ f x o l. writes_incomplete o l c.args.run.now short _ _ c.args.space.now c.lay.result c.lay.ensures.lays_at c.lay.ensures.advances
-    (subst (Short c.args.run.now) (sym c.in-To.is) c.if-events-run.true)
+pub returns-then-end-events : goal.returns-then-end-events
+returns-then-end-events c = λ f e o l.
+    let laid = rw c.in_ok-end.ensures.ok_part at c.lay.ensures.lays_at in
+    let on = rw c.in_ok-end.ensures.ok_part at c.lay.ensures.advances in
+    writes_part c.args.source.now o l c.if-events-gt-LONGEST.false laid on c.if-end-events.true
 
 pub overflow_mul-bytes : goal.overflow_mul-bytes
 overflow_mul-bytes c =
-    let short : length c.args.run.now ≤ 65536 = omega (arith, c.if-run-gt-LONGEST.false) in
-    let few : (1 ≤ c.args.n) × (c.args.n ≤ 512) = let l = c.requires.listing.1 in (listing_some l, l.few) in
-    let advances : Advances c.args.run.now (c.args.n - 1) 0 0 (To c.in-To.events c.in-To.items) = subst (Advances c.args.run.now (c.args.n - 1) 0 0) c.in-To.is c.lay.ensures.advances in
-    omega (arith, few_items c.args.run.now c.args.n c.in-To.events c.in-To.items few.1 short advances)
+    let on = rw c.in_ok-end.ensures.ok_part at c.lay.ensures.advances in
+    omega (arith, few_items c.requires c.in_ok-end.end c.if-events-gt-LONGEST.false on)
 
 pub returns-then-space-bytes : goal.returns-then-space-bytes
-returns-then-space-bytes c =
-    let short : length c.args.run.now ≤ 65536 = omega (arith, c.if-run-gt-LONGEST.false) in
-    λ f x o l. writes_no_room o l c.args.run.now short _ _ c.lay.result c.in-To.events c.in-To.items c.lay.ensures.lays_at c.in-To.is c.if-events-run.false
-    c.args.space.now (omega (arith, c.if-space-bytes.true))
-
-pub overflow_sub-n-2 : goal.overflow_sub-n-2
-overflow_sub-n-2 c =
-    let few : (1 ≤ c.args.n) × (c.args.n ≤ 512) = let l = c.requires.listing.1 in (listing_some l, l.few) in
-    few.0
-
-pub lay-requires-2-clause-one_of : goal.lay-requires-2-clause-one_of
-lay-requires-2-clause-one_of c = let some = listing_some c.requires.listing.1 in one_of c.requires.listing.1 (c.args.n - 1) (omega arith)
-
-pub lay-requires-2-clause-tells_nulls : goal.lay-requires-2-clause-tells_nulls
-lay-requires-2-clause-tells_nulls c = subst (TellsNulls (held c.args.nodes.now) _) (last c.args.n (listing_some c.requires.listing.1)) c.requires.tells_nulls
-
-pub lay-requires-2-clause-tells_sets : goal.lay-requires-2-clause-tells_sets
-lay-requires-2-clause-tells_sets c = subst (TellsSets First (held c.args.nodes.now) _) (last c.args.n (listing_some c.requires.listing.1)) c.requires.tells_sets
+returns-then-space-bytes c = λ f e o l.
+    let laid = rw c.in_ok-end.ensures.ok_part at c.lay.ensures.lays_at in
+    writes_no_room c.args.source.now o l c.if-events-gt-LONGEST.false laid c.if-end-events.false c.if-space-bytes.true
 
 pub lay-requires-2-clause-leeway : goal.lay-requires-2-clause-leeway
-lay-requires-2-clause-leeway c = walk_leeway c.args.run.now c.args.n c.requires.listing.1.few (omega (arith, c.if-run-gt-LONGEST.false))
+lay-requires-2-clause-leeway c = walk_leeway c.requires c.if-events-gt-LONGEST.false
 
 pub returns : goal.returns
-returns c =
-    let short : length c.args.run.now ≤ 65536 = omega (arith, c.if-run-gt-LONGEST.false) in
-    λ f x o l. writes_all o l c.args.run.now short _ _ c.lay.result c.in-To.events c.in-To.items c.lay.ensures.lays_at c.in-To.is c.if-events-run.false
-    c.args.space.now _ c.lay-2.result (omega (arith, c.if-space-bytes.false)) c.lay-2.ensures.lays_at c.lay-2.ensures.advances
+returns c = λ f e o l.
+    let laid = rw c.in_ok-end.ensures.ok_part at c.lay.ensures.lays_at in
+    writes_all c.args.source.now o l c.if-events-gt-LONGEST.false laid c.if-end-events.false c.lay-2.result c.if-space-bytes.false c.lay-2.ensures.lays_at
+    c.lay-2.ensures.advances

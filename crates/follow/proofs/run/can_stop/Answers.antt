@@ -2,13 +2,12 @@
 use Rattle.follow.proofs.Running.{stop_start, stop_place}
 use Rattle.follow.proofs.run.can_stop.Goals as goal
 
-pub returns-then-node-eq0 : goal.returns-then-node-eq0
-returns-then-node-eq0 c =
-    let a = c.args in
-    λ e k pl s. stop_start a.nodes.now a.nulls.now a.n e k a.node a.counts.now pl.listing pl.empties c.if-node-eq0.true s
+pub returns-in-None : goal.returns-in-None
+returns-in-None c =
+    let p = c.args.plan.now.procedure.now in
+    λ e k pl s. stop_start p.nodes p.nulls p.count e k c.args.standing.now.counts pl.listing pl.empties (rw c.in-None.is at s)
 
-pub returns : goal.returns
-returns c =
-    let a = c.args in
+pub returns-in-Some : goal.returns-in-Some
+returns-in-Some c =
     λ e k pl s.
-    stop_place a.n e k a.node _ a.counts.now pl.listing.sized c.if-node-eq0.false s (λ p here m. c.can_end.ensures e p pl here m)
+    stop_place c.args.plan.now.procedure.now.count e k c.in-Some.p _ c.args.standing.now.counts pl.listing.sized (rw c.in-Some.is at s) (λ p here m. c.can_end.ensures e p pl here m)

@@ -1,38 +1,36 @@
-use mathlib.Core.Path.{subst}
-use mathlib.Core.List.{List}
-use Prim.Native.Nat.{ℕ}
-use Rattle.states.specs.Standing.{AtSpot}
-use Rattle.follow.proofs.Running.{passed_more, nexted_goes, nexted_stays, wanted_kind}
+use mathlib.Core.Path.{◌≡◌, subst, ap}
+use Rattle.std.proofs.Common.{rules, get_or}
+use Rattle.procedure.specs.declared.node.Node.TheVariants as entry
+use Rattle.procedure.specs.Entry.{kind_of, record_of}
+use Rattle.states.specs.Standing.{StandsAt}
+use Rattle.follow.proofs.Running.{passed_other, passed_stuck, nexted_goes, nexted_stays}
 use Rattle.follow.proofs.run.next.Goals as goal
+use Rattle.follow.proofs.run.next.Goals.{else-eq-via-then-eq+else-go_to, else-eq-via-else-eq}
 
 pub returns-then-go_to-clause-nexted : goal.returns-then-go_to-clause-nexted
 returns-then-go_to-clause-nexted c =
-    let a = c.args in
-    let below = c.loop-q-test.true in
-    let here = c.loop-q.invariant.1 below in λ e k pl s.
-    nexted_goes a.nodes.now a.n e k a.code c.event_of-wanted.result c.loop-q.q _ a.counts.now c.loop-q.counts _ pl.listing
-    c.event_of-wanted.ensures.code_bound c.event_of-wanted.ensures.value below here c.if-go_to.true
-    (c.go_to.ensures e k pl (wanted_kind a.nodes.now a.code c.event_of-wanted.result c.loop-q.q c.event_of-wanted.ensures.code_bound c.event_of-wanted.ensures.value here)
-    (subst (λ (x : List ℕ). AtSpot e k a.node x) (c.loop-q.invariant.2 e k pl s).same s))
+    let here : get_or c.args.plan.now.procedure.now.nodes c.loop-q.q entry.Empty ≡ entry.Event c.args.code = search rules in
+    λ e k pl s.
+    nexted_goes pl.listing c.loop-q-test.true here c.if-go_to.true
+    (c.go_to.ensures e k pl (ap (λ x. kind_of (record_of x)) here) (subst (StandsAt e k) (c.loop-q.invariant.1 e k pl s).same s))
 
 pub loop-q-preserved : goal.loop-q-preserved
-loop-q-preserved c =
-    let a = c.args in
-    let here = c.loop-q.invariant.1 c.loop-q-test.true in (
-      c.find-q-in-loop-q.ensures.within,
-      c.find-q-in-loop-q.ensures.here,
-      λ e k pl s.
-          let passed = c.loop-q.invariant.2 e k pl s in
-          passed_more a.nodes.now e k a.n _ c.loop-q.q _ _ a.counts.now c.loop-q.counts _ passed c.if-go_to.false
-          (c.go_to.ensures e k pl (wanted_kind a.nodes.now a.code c.event_of-wanted.result c.loop-q.q c.event_of-wanted.ensures.code_bound c.event_of-wanted.ensures.value here)
-          (subst (λ (x : List ℕ). AtSpot e k a.node x) passed.same s))
-          c.find-q-in-loop-q.ensures,
-    )
+loop-q-preserved c = (
+  elim c.else-eq.branch [
+    | else-eq-via-then-eq+else-go_to w ↦ rw w.standing-is c.loop-q.invariant.0
+    | else-eq-via-else-eq w ↦ rw w.standing-is c.loop-q.invariant.0
+  ],
+  λ e k pl s.
+      let passed = c.loop-q.invariant.1 e k pl s in
+      elim c.else-eq.branch [
+        | else-eq-via-then-eq+else-go_to w ↦
+            let here : get_or c.args.plan.now.procedure.now.nodes c.loop-q.q entry.Empty ≡ entry.Event c.args.code = search rules in
+            rw w.standing-is
+            (passed_stuck c.loop-q.standing.reached passed w.if-go_to.false
+            (w.go_to.ensures e k pl (ap (λ x. kind_of (record_of x)) here) (subst (StandsAt e k) passed.same s)))
+        | else-eq-via-else-eq w ↦ rw w.standing-is (passed_other passed (search rules))
+      ],
+)
 
 pub returns-clause-nexted : goal.returns-clause-nexted
-returns-clause-nexted c =
-    let a = c.args in λ e k pl s.
-    nexted_stays a.nodes.now a.n e k a.code c.event_of-wanted.result c.loop-q.q a.counts.now _ pl.listing
-    c.event_of-wanted.ensures.value
-    c.loop-q-test.false
-    (c.loop-q.invariant.2 e k pl s)
+returns-clause-nexted c = λ e k pl s. nexted_stays pl.listing c.loop-q-test.false (c.loop-q.invariant.1 e k pl s)

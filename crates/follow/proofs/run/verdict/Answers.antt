@@ -10,6 +10,6 @@ pub returns-then-can_stop : goal.returns-then-can_stop
 returns-then-can_stop c =
     λ e k pl s. stands_complete e k _ _ _ c.requires.taken_le_given c.if-taken-given.false c.if-can_stop.true (c.can_stop.ensures e k pl s)
 
-pub returns : goal.returns
-returns c =
+pub returns-else-can_stop : goal.returns-else-can_stop
+returns-else-can_stop c =
     λ e k pl s. stands_unfinished e k _ _ _ c.requires.taken_le_given c.if-taken-given.false c.if-can_stop.false (c.can_stop.ensures e k pl s)

@@ -1,29 +1,25 @@
--- `plan::fill::link_at` meets its contract, kind by kind. Assumes nothing.
+-- `plan::fill::link_at` meets its contract: the children of a node stand below it.
 use native.Mathlib.Omega.{arith}
-use borrow.Author.Rules.{rules}
-use Rattle.procedure.specs.Entry.{held}
-use Rattle.procedure.proofs.Nodes.{one_ordered, one_small}
-use Rattle.procedure.proofs.Standing.{last_order, left_lower}
+use Rattle.plan.proofs.Links.{before_choice, before_repeat, before_sequence, left_choice, left_sequence}
 use Rattle.plan.proofs.fill.link_at.Goals as goal
 
-pub overflow_sub-last : goal.overflow_sub-last
-overflow_sub-last c = ((last_order (held c.args.nodes.now) c.args.i c.kind_of-kind.result c.kind_of-kind.ensures c.if-kind-lt-CHOICE.false (one_ordered _ c.requires)).1)
+pub tell-requires : goal.tell-requires
+tell-requires c = omega (arith, left_choice c.requires c.in-Choice.is)
 
-pub bounds-nulls-left : goal.bounds-nulls-left
-bounds-nulls-left c =
-    omega (
-      arith,
-      (left_lower (held c.args.nodes.now) c.args.i c.kind_of-kind.result c.left_of-left.result c.kind_of-kind.ensures c.left_of-left.ensures
-          c.if-kind-lt-CHOICE.false c.if-kind-eq-REPEAT.false (one_ordered c.args.i c.requires)),
-      one_small _ c.requires,
-    )
+pub overflow_sub-i : goal.overflow_sub-i
+overflow_sub-i c = before_choice c.requires c.in-Choice.is
 
-pub tell_at-requires-then-kind-eq-SEQUENCE-clause-c_bound : goal.tell_at-requires-then-kind-eq-SEQUENCE-clause-c_bound
-tell_at-requires-then-kind-eq-SEQUENCE-clause-c_bound c =
-    let l = one_small _ c.requires in let m = (left_lower (held c.args.nodes.now) c.args.i c.kind_of-kind.result c.left_of-left.result c.kind_of-kind.ensures c.left_of-left.ensures
-    c.if-kind-lt-CHOICE.false c.if-kind-eq-REPEAT.false (one_ordered c.args.i c.requires)) in search rules
+pub bounds-procedure-left : goal.bounds-procedure-left
+bounds-procedure-left c = omega (arith, left_sequence c.requires c.in-Sequence.is)
 
-pub tell_at-requires-2-clause-c_bound : goal.tell_at-requires-2-clause-c_bound
-tell_at-requires-2-clause-c_bound c =
-    let l = one_small _ c.requires in let m = (left_lower (held c.args.nodes.now) c.args.i c.kind_of-kind.result c.left_of-left.result c.kind_of-kind.ensures c.left_of-left.ensures
-    c.if-kind-lt-CHOICE.false c.if-kind-eq-REPEAT.false (one_ordered c.args.i c.requires)) in search rules
+pub overflow_sub-right : goal.overflow_sub-right
+overflow_sub-right c = before_sequence c.requires c.in-Sequence.is
+
+pub tell-requires-in-Sequence : goal.tell-requires-in-Sequence
+tell-requires-in-Sequence c = omega (arith, left_sequence c.requires c.in-Sequence.is)
+
+pub overflow_sub-i-in-Sequence : goal.overflow_sub-i-in-Sequence
+overflow_sub-i-in-Sequence c = before_sequence c.requires c.in-Sequence.is
+
+pub overflow_sub-i-in-Repeat : goal.overflow_sub-i-in-Repeat
+overflow_sub-i-in-Repeat c = before_repeat c.requires c.in-Repeat.is

@@ -1,55 +1,18 @@
--- `prompt::light::light` meets its contract. Assumes nothing.
-use Rattle.meaning.specs.Expr.{Expr}
-use Rattle.procedure.specs.Listing.{Tables}
-use Rattle.plan.specs.Plan.{Plans}
-use Rattle.states.specs.Standing.{ReadOf}
-use Rattle.states.proofs.Readiness.{read_below}
-use Rattle.prompt.proofs.Prompting.{read_event, prompts_unreached, prompts_lit}
+-- `prompt::light::light` meets its contract, by what is read of the state.
+use native.Mathlib.Omega.{arith}
+use Rattle.meaning.specs.Promises.{Prompts}
+use Rattle.prompt.proofs.Prompting.{prompts_lit, read_event}
 use Rattle.prompt.proofs.light.light.Goals as goal
 
 pub returns-in_default : goal.returns-in_default
-returns-in_default c =
-    let told : (e : Expr) → (Tables c.args.nodes.now c.args.starts.now c.args.nulls.now c.args.repeats.now c.args.n c.args.r e) → ReadOf e c.args.bytes.now c.read_state.new.counts c.read_state.result = λ e w. c.read_state.ensures e w in
-    λ f e a w. prompts_unreached f c.args.bytes.now c.read_state.new.counts e _ a (told e w) c.in_default.is
+returns-in_default c = λ f e a is. Prompts.unreached e a (c.in_default.ensures e is)
 
-pub lit-lit-requires-clause-node_le_n : goal.lit-lit-requires-clause-node_le_n
-lit-lit-requires-clause-node_le_n c =
-    let told : (e : Expr) → (Tables c.args.nodes.now c.args.starts.now c.args.nulls.now c.args.repeats.now c.args.n c.args.r e) → ReadOf e c.args.bytes.now c.read_state.new.counts c.read_state.result = λ e w. c.read_state.ensures e w in
-    let planned : (e : Expr) → (Tables c.args.nodes.now c.args.starts.now c.args.nulls.now c.args.repeats.now c.args.n c.args.r e)
-    → Plans c.args.nodes.now c.args.starts.now c.args.nulls.now c.fill_plan.new.plan c.args.n e = λ e w. c.fill_plan.ensures _ _ e w in
-    let pre = c.requires.tables in
-    let e = pre.0 in
-    let listing = pre.1.listing in
-    let same = c.in-Reached.is in
-    let came = told e pre.1 in read_below e c.args.bytes.now c.read_state.new.counts _ _ _ listing.sized came same
-
-pub lit-lit-requires-clause-node_value : goal.lit-lit-requires-clause-node_value
-lit-lit-requires-clause-node_value c =
-    let told : (e : Expr) → (Tables c.args.nodes.now c.args.starts.now c.args.nulls.now c.args.repeats.now c.args.n c.args.r e) → ReadOf e c.args.bytes.now c.read_state.new.counts c.read_state.result = λ e w. c.read_state.ensures e w in
-    let planned : (e : Expr) → (Tables c.args.nodes.now c.args.starts.now c.args.nulls.now c.args.repeats.now c.args.n c.args.r e)
-    → Plans c.args.nodes.now c.args.starts.now c.args.nulls.now c.fill_plan.new.plan c.args.n e = λ e w. c.fill_plan.ensures _ _ e w in
-    let pre = c.requires.tables in
-    let e = pre.0 in
-    let listing = pre.1.listing in
-    let same = c.in-Reached.is in
-    let came = told e pre.1 in read_event e c.args.bytes.now c.read_state.new.counts _ _ listing came same
-
-pub lit-lit-requires-clause-plans : goal.lit-lit-requires-clause-plans
-lit-lit-requires-clause-plans c =
-    let told : (e : Expr) → (Tables c.args.nodes.now c.args.starts.now c.args.nulls.now c.args.repeats.now c.args.n c.args.r e) → ReadOf e c.args.bytes.now c.read_state.new.counts c.read_state.result = λ e w. c.read_state.ensures e w in
-    let planned : (e : Expr) → (Tables c.args.nodes.now c.args.starts.now c.args.nulls.now c.args.repeats.now c.args.n c.args.r e)
-    → Plans c.args.nodes.now c.args.starts.now c.args.nulls.now c.fill_plan.new.plan c.args.n e = λ e w. c.fill_plan.ensures _ _ e w in
-    let pre = c.requires.tables in
-    let e = pre.0 in
-    let listing = pre.1.listing in
-    let same = c.in-Reached.is in
-    let came = told e pre.1 in (e, planned e pre.1)
+pub lit-requires-clause-event : goal.lit-requires-clause-event
+lit-requires-clause-event c =
+    rw c.fill-plan.ensures.same (read_event c.requires.tables.1 c.args.bytes.now c.in-Some.standing (c.in-Some.ensures c.requires.tables.0 c.requires.tables.1))
 
 pub returns : goal.returns
-returns c =
-    let told : (e : Expr) → (Tables c.args.nodes.now c.args.starts.now c.args.nulls.now c.args.repeats.now c.args.n c.args.r e) → ReadOf e c.args.bytes.now c.read_state.new.counts c.read_state.result = λ e w. c.read_state.ensures e w in
-    let planned : (e : Expr) → (Tables c.args.nodes.now c.args.starts.now c.args.nulls.now c.args.repeats.now c.args.n c.args.r e)
-    → Plans c.args.nodes.now c.args.starts.now c.args.nulls.now c.fill_plan.new.plan c.args.n e = λ e w. c.fill_plan.ensures _ _ e w in
-    λ f e a w.
-    prompts_lit f c.args.bytes.now c.read_state.new.counts e _ _ c.lit-lit.result _ _ a w (planned e w) (told e w) c.in-Reached.is c.lit-lit.ensures
-    c.low.ensures c.high.ensures
+returns c = λ f e a is.
+    prompts_lit f c.args.bytes.now e c.in-Some.standing c.lit.result c.from.result (omega arith) (omega arith) a (rw c.fill-plan.ensures.same is)
+    (c.fill-plan.ensures.plans e is)
+    (c.in-Some.ensures e is) c.lit.ensures c.from.ensures.0 c.from.ensures.1

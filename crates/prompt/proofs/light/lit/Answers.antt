@@ -1,8 +1,6 @@
--- `prompt::light::lit` meets its contract. Assumes nothing.
-use Rattle.prompt.proofs.Lighting.{lit_as, lit_at_start}
+-- `prompt::light::lit` meets its contract: at the start first of the root is lit.
+use Rattle.prompt.proofs.Lighting.{lit_at_start}
 use Rattle.prompt.proofs.light.lit.Goals as goal
 
-pub returns-then-node-eq0 : goal.returns-then-node-eq0
-returns-then-node-eq0 c =
-    let a = c.args in
-    lit_as c.if-node-eq0.true (lit_at_start a.nodes.now a.starts.now a.nulls.now a.firsts.now a.plan.now a.n c.requires.tells_sets)
+pub returns-in-None : goal.returns-in-None
+returns-in-None c = lit_at_start c.args.firsts.now c.in-None.is c.requires.tells_sets

@@ -1,5 +1,4 @@
 -- `prompt::near::near` meets its contract. The invariant: whatever the way up from x comes to, the way up from p comes to.
--- Assumes nothing.
 use mathlib.Core.Bool.{Bool}
 use Prim.Native.Nat.{◌≤◌, ◌-◌}
 use Rattle.plan.specs.Plan.{above_at}
@@ -7,7 +6,10 @@ use Rattle.prompt.proofs.Nearby.{Nears}
 use Rattle.prompt.proofs.near.near.Given as goal
 
 abbrev pub invariant-loop-x : goal.invariant-loop-x
-invariant-loop-x l = (1 ≤ l.x) × ((r : Bool) → Nears l.nodes l.starts l.nulls l.plan l.n l.q l.x r → Nears l.nodes l.starts l.nulls l.plan l.n l.q (above_at l.plan l.p) r)
+invariant-loop-x l = record {
+  some : 1 ≤ l.x;
+  on : (r : Bool) → Nears l.plan l.q l.x r → Nears l.plan l.q (above_at l.plan.links.now l.p) r;
+}
 
 abbrev pub decreases-loop-x : goal.decreases-loop-x
-decreases-loop-x l = l.n - l.x
+decreases-loop-x l = l.plan.procedure.now.count - l.x

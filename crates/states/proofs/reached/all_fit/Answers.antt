@@ -1,8 +1,8 @@
-use native.Mathlib.Omega.{arith}
-use Rattle.states.proofs.Standing.{listed_inner}
+use Rattle.states.proofs.Stands.{listed_inner}
 use Rattle.states.proofs.reached.all_fit.Goals as goal
 
-pub fits-requires : goal.fits-requires
-fits-requires c =
-    let inner = listed_inner c.requires.2 c.loop-k.k c.loop-k-test.true in
-    (omega (arith, c.wide.ensures), omega (arith, c.wide.ensures))
+pub fits-requires-clause-y_in_bounds : goal.fits-requires-clause-y_in_bounds
+fits-requires-clause-y_in_bounds c = rw c.from-repeat.ensures (listed_inner c.requires.1 c.loop-rank.rank c.loop-rank-test.true)
+
+pub fits-requires-clause-is_repeat : goal.fits-requires-clause-is_repeat
+fits-requires-clause-is_repeat c = rw c.from-repeat.ensures ((c.requires.1.ranked.each c.loop-rank.rank c.loop-rank-test.true).repeats)

@@ -1,12 +1,13 @@
--- `steps::climb::climb` meets its contract. Assumes nothing.
+-- `steps::climb::climb` meets its contract. The loop's invariant: wherever the way from x leads, the way from the start leads there. Assumes nothing.
 use Prim.Native.Nat.{◌≤◌, ◌-◌}
-use Rattle.steps.specs.Climb.{Climbs}
+use Rattle.steps.specs.Climb.{ClimbsBy}
 use Rattle.plan.specs.Plan.{above_at}
 use Rattle.steps.specs.declared.climb.Turn.{Turn}
 use Rattle.steps.proofs.climb.climb.Given as goal
 
 abbrev pub invariant-loop-x : goal.invariant-loop-x
-invariant-loop-x l = (1 ≤ l.x) × ((r : Turn) → Climbs l.nodes l.starts l.nulls l.plan l.counts l.n l.q l.x r → Climbs l.nodes l.starts l.nulls l.plan l.counts l.n l.q (above_at l.plan l.p) r)
+invariant-loop-x l =
+    (1 ≤ l.x) × ((r : Turn) → ClimbsBy l.plan l.counts l.q l.x r → ClimbsBy l.plan l.counts l.q (above_at l.plan.links.now l.p) r)
 
 abbrev pub decreases-loop-x : goal.decreases-loop-x
-decreases-loop-x l = l.n - l.x
+decreases-loop-x l = l.plan.procedure.now.count - l.x

@@ -1,8 +1,0 @@
--- `procedure::entry::upper_of` meets its contract: it is the field that `unpacked` takes out. Assumes nothing.
-use mathlib.Core.Path.{refl}
-use Rattle.procedure.specs.Entry.{unpacked}
-use Rattle.procedure.proofs.entry.upper_of.Goals as goal
-
-pub returns : goal.returns
-unfolding unpacked
-returns c = refl
