@@ -39,13 +39,13 @@ extern "C" {
 #endif
 
 /*
- * The version of this header and of the library that it was installed with, also as text: "0.4.2". Before version 1
+ * The version of this header and of the library that it was installed with, also as text: "0.4.3". Before version 1
  * the second number may change a call, as 0.3 did seq_prompt and 0.4 seq_judge: what calls the library is then compiled
  * anew.
  */
 #define SEQ_VERSION_MAJOR 0
 #define SEQ_VERSION_MINOR 4
-#define SEQ_VERSION_PATCH 2
+#define SEQ_VERSION_PATCH 3
 #define SEQ_TEXT_OF(number) #number
 #define SEQ_TEXT(number) SEQ_TEXT_OF(number)
 #define SEQ_VERSION SEQ_TEXT(SEQ_VERSION_MAJOR) "." SEQ_TEXT(SEQ_VERSION_MINOR) "." SEQ_TEXT(SEQ_VERSION_PATCH)
@@ -161,7 +161,7 @@ enum seq_conflict {
  */
 #define SEQ_JUDGE_STACK 22528
 #define SEQ_FOLLOW_STACK 26624
-#define SEQ_WRITE_STACK 67584
+#define SEQ_WRITE_STACK 66560
 #define SEQ_CHECK_STACK 36864
 #define SEQ_PROMPT_STACK 26624
 

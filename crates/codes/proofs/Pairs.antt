@@ -1,8 +1,9 @@
 -- From words to sets: which codes a set has by the digits of its words, so what is made of the words of sets is made of the sets.
 -- Assumes nothing.
-use mathlib.Core.Logic.{◌↔◌, ◌≢◌, ◌⊎◌, ⊎_elim}
+use mathlib.Core.Logic.{◌↔◌, ◌≢◌, ◌⊎◌, inl, inr, ⊎_elim}
 use mathlib.Core.Path.{◌≡◌, refl, sym, ap, subst, ◌∙◌}
 use Prim.Native.Nat.{ℕ, ◌+◌, ◌-◌, ◌*◌, ◌%◌, ◌^◌, ◌≤◌, ◌<◌}
+use native.Mathlib.Decide.{ℕ_discrete}
 use native.Mathlib.Omega.{arith}
 use lib.Bits.{and_block, bit_and, bit_or, or_block}
 use lib.Count.{ones, ones_cat}
@@ -35,6 +36,10 @@ module _ (s : Codes) (c : ℕ) where
   pub high_contains : s.low < 2 ^ 64 → 64 ≤ c → Has s.high (c - 64) ↔ Contains s c
   unfolding Contains Has in_words
   high_contains w l = let e = bit_at_cat_high s.high 64 s.low c w l in (λ h. e ∙ h, λ h. sym e ∙ h)
+
+  -- and each code of the set is in the one or in the other
+  split_words : s.low < 2 ^ 64 → Contains s c → ((c < 64) × Has s.low c) ⊎ ((k : ℕ) × (c ≡ 64 + k) × Has s.high k)
+  split_words w h = ⊎_elim (λ l. inl (l, (low_contains l).1 h)) (λ l. inr (c - 64, omega arith, (high_contains w l).1 h)) (cases_lt c 64)
 
   -- no code is in two words that are 0, and none from 128 on in any
   pub none_contains : s.low ≡ 0 → s.high ≡ 0 → ¬ Contains s c
@@ -100,7 +105,9 @@ module _ (s : Codes) where
   pub lowest_in_low : s.low < 2 ^ 64 → s.low ≢ 0 → Least (Contains s) (trailing_zeros w64 s.low) × (trailing_zeros w64 s.low < limit)
   lowest_in_low w n =
       let t = trailing_lowest s.low w n in
-      (record { holds = (low_contains s _ t.0).0 t.1.holds; lowest = λ d h. ⊎_elim (λ l. t.1.lowest d ((low_contains s d l).1 h)) (λ l. omega arith) (cases_lt d 64) }, omega arith)
+      let least : (d : ℕ) → Contains s d → trailing_zeros w64 s.low ≤ d =
+      λ d h. ⊎_elim (λ p. t.1.lowest d p.1) (λ p. omega (arith, p.1)) (split_words s d w h) in
+      (record { holds = (low_contains s _ t.0).0 t.1.holds; lowest = least }, omega arith)
 
   -- or else that of the high word, which is 64 higher
   pub lowest_in_high : s.low ≡ 0 → s.high < 2 ^ 64 → s.high ≢ 0
@@ -111,11 +118,28 @@ module _ (s : Codes) where
       let k : 64 + trailing_zeros w64 s.high - 64 ≡ trailing_zeros w64 s.high = omega arith in (
         record {
           holds = (high_contains s _ v (omega arith)).0 (subst (Has s.high) (sym k) t.1.holds);
-          lowest = λ d h. ⊎_elim (λ l. absurd (nothing_has d (subst (λ (n : ℕ). Has n d) e ((low_contains s d l).1 h))))
-              (λ l. omega (arith, t.1.lowest (d - 64) ((high_contains s d v l).1 h))) (cases_lt d 64);
+          lowest = λ d h. ⊎_elim (λ p. absurd (nothing_has d (subst (λ (n : ℕ). Has n d) e p.1)))
+              (λ p. omega (arith, p.1, t.1.lowest p.0 p.2)) (split_words s d v h);
         },
         omega arith,
       )
+
+  -- a code is in the set exactly if something is in either word
+  pub any_told : s.low < 2 ^ 64 → s.high < 2 ^ 64 → ((s.low ≢ 0) ⊎ (s.high ≢ 0)) ↔ ((c : ℕ) × Contains s c)
+  any_told v w = (
+    ⊎_elim in_low (λ n. in_high n (ℕ_discrete s.low 0)),
+    λ some. ⊎_elim (λ p. inl (filled some.0 p.1)) (λ p. inr (filled p.0 p.2)) (split_words s some.0 v some.1),
+  )
+    where
+      in_low : s.low ≢ 0 → (c : ℕ) × Contains s c
+      in_low n = (_, (lowest_in_low v n).0.holds)
+
+      in_high : s.high ≢ 0 → Dec (s.low ≡ 0) → (c : ℕ) × Contains s c
+      in_high n (yes e) = (_, (lowest_in_high e w n).0.holds)
+      in_high n (no m) = in_low m
+
+      filled : {x : ℕ} (c : ℕ) → Has x c → x ≢ 0
+      filled c h e = nothing_has c (subst (λ (n : ℕ). Has n c) e h)
 
   pub count_in_words : s.low < 2 ^ 64 → s.high < 2 ^ 64 → CountBelow (Contains s) limit (ones s.low + ones s.high)
   unfolding Contains in_words

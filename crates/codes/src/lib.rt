@@ -1,7 +1,7 @@
 // Sets of codes. A contract says which codes are in the result (`specs/Codes.antt`).
 #![tactic(auto)]
 
-ghost use Rattle.std.specs.Prelude.{IsTrue, ◌↔◌, ◌⊎◌, ◌≡◌, ℕ, ◌<◌};
+ghost use Rattle.std.specs.Prelude.{IsTrue, IsFalse, ◌↔◌, ◌⊎◌, ◌≡◌, ℕ, ◌<◌};
 ghost use Rattle.meaning.specs.Properties.{CountBelow};
 ghost use Rattle.codes.specs.Codes.{Contains, LowestIn, Shared, limit};
 
@@ -82,7 +82,8 @@ impl Codes {
 
     // Whether the set has no code.
     pub fn is_empty(self) -> bool
-        ensures { IsTrue result ↔ ((c : ℕ) → ¬ Contains self c) }
+        ensures none { IsTrue result ↔ ((c : ℕ) → ¬ Contains self c) }
+        ensures some { IsFalse result ↔ ((c : ℕ) × Contains self c) }
     {
         self.low == 0 && self.high == 0
     }

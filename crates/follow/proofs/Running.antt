@@ -11,6 +11,7 @@ use Rattle.std.specs.Prelude.{Option, Some}
 use Rattle.meaning.specs.declared.Verdict.TheVariants.{Complete, Unfinished}
 use Rattle.meaning.specs.Expr.{Expr, size, root}
 use Rattle.meaning.specs.Normal.{nullable}
+use Rattle.meaning.specs.Codes.{most_code}
 use Rattle.meaning.specs.Node.{node}
 use Rattle.meaning.specs.Theory.Places.{Place, node_of, CanEnd}
 use Rattle.meaning.specs.Theory.Spots.{Spot, start, behind, CanStop}
@@ -24,12 +25,13 @@ use Rattle.procedure.specs.Entry.{Entry, Nodes, record_of, held, kind_of, code_o
 use Rattle.procedure.specs.Tests.{Decides}
 use Rattle.procedure.specs.Listing.{Listing, TellsNulls}
 use Rattle.procedure.proofs.Empties.{null_of_part}
+use Rattle.procedure.proofs.Nodes.{event_kept}
 use Rattle.meaning.specs.Theory.Counts.{Marked, Unmarked}
 use Rattle.steps.specs.Step.{Stepped, steps, Started, starts, Ended, ended, open_yet}
 use Rattle.steps.specs.Step as step
 use Rattle.states.specs.declared.standing.Standing.{Standing}
 use Rattle.states.specs.Standing.{AtSpot, StandsAt}
-use Rattle.follow.specs.Run.{Tried, leads, Nexted, goes, RanTo}
+use Rattle.follow.specs.Run.{Tried, leads, Nexted, goes, RanTo, told_code}
 use Rattle.follow.specs.Run as run
 
 -- ---- the node of an event
@@ -40,6 +42,14 @@ record_event (entry.Event d) c same = ap entry.Event (ap code_of same)
 record_event (entry.Choice left right) c same = absurd (omega (arith, ap kind_of same))
 record_event (entry.Sequence left right) c same = absurd (omega (arith, ap kind_of same))
 record_event (entry.Repeat body lower upper) c same = absurd (omega (arith, ap kind_of same))
+
+-- by the table of codes
+pub told_event : (x : Entry) (c : ℕ) → told_code x ≡ c → c ≤ most_code → x ≡ entry.Event c
+told_event entry.Empty c told small = absurd (omega arith)
+told_event (entry.Event d) c told small = ap entry.Event told
+told_event (entry.Choice left right) c told small = absurd (omega arith)
+told_event (entry.Sequence left right) c told small = absurd (omega arith)
+told_event (entry.Repeat body lower upper) c told small = absurd (omega arith)
 
 -- ---- from a spot to one event node
 
@@ -97,6 +107,14 @@ nexted_stays {nodes} {n} {e} {k} {code} {c = c} l over p =
     (run.Nexted.stays
     (no_way_stands (held nodes) e k code l.stands
     (λ j m w. p.none j (omega (arith, l.sized)) (record_event (get_or nodes j entry.Empty) code w))))
+
+-- no node has a code past the largest
+pub nexted_past : {nodes : Nodes} {n : ℕ} {e : Expr} {k : Spot e} {code : ℕ} {c : Standing} → Listing nodes n e → most_code < code
+    → Nexted e k code false c c
+nexted_past {nodes} {n} {e} {k} {code} l past =
+    run.Nexted.stays
+    (no_way_stands (held nodes) e k code l.stands
+    (λ j m w. absurd (omega (arith, event_kept (held nodes j) (l.table j (omega (arith, l.sized))) (ap kind_of w), ap code_of w))))
 
 -- ---- the events
 

@@ -1,12 +1,26 @@
 -- Following events, from the tree: where a run stands, the event that comes next, and the run over all events. A model of our code, and
 -- no promise.
-use Rattle.std.specs.Prelude.{Bool, true, false, List, ℕ, ◌+◌}
+use Rattle.std.specs.Prelude.{Bool, true, false, List, ℕ, ◌≡◌, ◌+◌, ◌<◌, get_or}
 use Rattle.meaning.specs.Expr.{Expr, event, Part}
 use Rattle.meaning.specs.Theory.Places.{Place}
 use Rattle.meaning.specs.Theory.Spots.{Spot, behind}
 use Rattle.meaning.specs.Theory.Runs.{LeadsTo, NoWay, Going}
+use Rattle.procedure.specs.declared.node.Node.TheVariants.{Empty, Event, Choice, Sequence, Repeat}
+use Rattle.procedure.specs.Entry.{Entry, Nodes}
 use Rattle.states.specs.declared.standing.Standing.{Standing}
 use Rattle.states.specs.Standing.{AtSpot, StandsAt}
+
+-- what the table of codes has for a node: the code of an event, and else no code that an event may have
+abbrev pub told_code : Entry → ℕ
+told_code Empty = 255
+told_code (Event c) = c
+told_code (Choice left right) = 255
+told_code (Sequence left right) = 255
+told_code (Repeat body lower upper) = 255
+
+-- the table of codes tells so of each node below n
+abbrev pub TellsCodes : Nodes → List ℕ → ℕ → Type 0
+TellsCodes nodes codes n = (q : ℕ) → q < n → get_or codes q 0 ≡ told_code (get_or nodes q Empty)
 
 -- from the spot to event node q, with the counters c before and d after: yes exactly if the way leads to a place
 pub data Tried (e : Expr) (k : Spot e) (q : ℕ) : Bool → List ℕ → List ℕ → Type 0 where

@@ -8,13 +8,17 @@ ghost use Rattle.procedure.specs.Tests.{Decides};
 ghost use Rattle.plan.specs.Plan.{PlanOf};
 ghost use Rattle.states.specs.StateBytes.{place_of};
 ghost use Rattle.states.specs.Standing.{AtSpot, StandsAt};
-ghost use Rattle.follow.specs.Run.{Tried, Nexted, RanTo};
+ghost use Rattle.follow.specs.Run.{Tried, Nexted, RanTo, TellsCodes, told_code};
 
+use codes::MOST_CODE;
 use meaning::Verdict;
 use plan::Plan;
-use procedure::MOST_REPEATS;
 use procedure::node::Node;
+use procedure::{MOST_NODES, MOST_REPEATS};
 use states::standing::Standing;
+
+// In the table of the codes, for a node that is no event: past the largest code.
+const NO_CODE: u8 = 255;
 
 // From where the run stands to event node q. The counters change only where the answer is yes.
 fn go_to(plan: &Plan, reached: Option<usize>, counts: &mut [u16; MOST_REPEATS], q: usize) -> bool
@@ -28,21 +32,55 @@ fn go_to(plan: &Plan, reached: Option<usize>, counts: &mut [u16; MOST_REPEATS], 
     }
 }
 
-// By an event with the code, and whether the code continues. Where it does not, the run stands as it did.
-pub fn next(plan: &Plan, standing: &mut Standing, code: u8) -> bool
-    requires { place_of standing.old.reached ≤ plan.now.procedure.now.count }
+// What the table of the codes has for a node.
+fn told_code(node: Node) -> u8
+    ensures { result ≡ told_code node }
+{
+    match node {
+        Node::Event(code) => code,
+        _ => NO_CODE,
+    }
+}
+
+// The table comes to have the code of each event node.
+fn tell_codes(plan: &Plan, codes: &mut [u8; MOST_NODES])
+    ensures { TellsCodes plan.now.procedure.now.nodes codes.new plan.now.procedure.now.count }
+{
+    for q in 0..plan.procedure.count {
+        codes[q] = told_code(plan.procedure.nodes[q]);
+    }
+}
+
+// By an event with the code, and whether the code continues. Where it does not, the run stands as it did. By the table of the codes one
+// comparison passes over a node, where its kind and its code would take two.
+fn next_by(plan: &Plan, codes: &[u8; MOST_NODES], standing: &mut Standing, code: u8) -> bool
+    requires place_bound { place_of standing.old.reached ≤ plan.now.procedure.now.count }
+    requires tells_codes { TellsCodes plan.now.procedure.now.nodes codes.now plan.now.procedure.now.count }
     ensures upper_bound { place_of standing.new.reached ≤ plan.now.procedure.now.count }
     ensures nexted { (e : Expr) (k : Spot e) → PlanOf plan.now e → StandsAt e k standing.old → Nexted e k code result standing.old standing.new }
 {
+    // No event node has such a code.
+    if MOST_CODE < code {
+        return false;
+    }
     for q in 0..plan.procedure.count {
-        if plan.procedure.nodes[q] == Node::Event(code)
-            && go_to(plan, standing.reached, &mut standing.counts, q)
-        {
+        if codes[q] == code && go_to(plan, standing.reached, &mut standing.counts, q) {
             standing.reached = Some(q);
             return true;
         }
     }
     false
+}
+
+// The same of one event alone.
+pub fn next(plan: &Plan, standing: &mut Standing, code: u8) -> bool
+    requires { place_of standing.old.reached ≤ plan.now.procedure.now.count }
+    ensures upper_bound { place_of standing.new.reached ≤ plan.now.procedure.now.count }
+    ensures nexted { (e : Expr) (k : Spot e) → PlanOf plan.now e → StandsAt e k standing.old → Nexted e k code result standing.old standing.new }
+{
+    let mut codes = [0; MOST_NODES];
+    tell_codes(plan, &mut codes);
+    next_by(plan, &codes, standing, code)
 }
 
 // With the events, up to the first that does not continue, and how many it takes.
@@ -52,8 +90,10 @@ pub fn run(plan: &Plan, standing: &mut Standing, events: &[u8]) -> usize
     ensures taken_in_bounds { result ≤ length events.now }
     ensures ran_to { (e : Expr) (k : Spot e) → PlanOf plan.now e → StandsAt e k standing.old → RanTo e k events.now result standing.new }
 {
+    let mut codes = [0; MOST_NODES];
+    tell_codes(plan, &mut codes);
     for (taken, &code) in events.iter().enumerate() {
-        if !next(plan, standing, code) {
+        if !next_by(plan, &codes, standing, code) {
             return taken;
         }
     }

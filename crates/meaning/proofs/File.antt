@@ -2,5 +2,6 @@
 pub mod Files
 pub mod EventNodes
 pub mod Ranks
+pub mod Trailer
 pub mod Refusals
 pub mod FreeText

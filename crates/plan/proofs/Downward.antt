@@ -1,9 +1,10 @@
 -- What the downward pass leaves in the plan: each part's nodes say what stands above them, and their ranks. Assumes nothing.
 use mathlib.Core.Path.{◌≡◌, refl, sym, ap, subst, ◌∙◌}
 use mathlib.Core.Logic.{◌⊎◌, inl, inr, ⊎_elim}
-use mathlib.Core.Bool.{Bool, false, cond}
+use mathlib.Core.Bool.{Bool, true, false, cond}
 use mathlib.Core.List.{List}
 use Prim.Native.Nat.{ℕ, suc, ◌+◌, ◌-◌, ◌≤◌, ◌<◌}
+use native.Mathlib.Nat.{mod-eq_of_lt}
 use native.Mathlib.Omega.{arith}
 use lib.ListN.{length, get_or, set, length-set}
 use lib.Seq.{get_or-set_same, get_or-set_other}
@@ -19,6 +20,17 @@ use Rattle.plan.specs.Link.{Link, Links, above_in, begins_in, rank_in, ranked_in
 use Rattle.plan.specs.Plan.{above_at, begins_at, rank_at, Told, Planned}
 use Rattle.plan.specs.Filling.{begins_right, down, link_with, rank_to, tell, visit}
 use Rattle.plan.proofs.Beginnings.{among}
+
+-- ---- a link
+
+told_above : (a h : ℕ) → a < 1024 → above_in (told_in a h) ≡ a
+told_above a h l = mod-eq_of_lt l
+
+told_begins : (a h : ℕ) → h < 1024 → begins_in (told_in a h) ≡ h
+told_begins a h m = mod-eq_of_lt m
+
+ranked_rank : (x : Link) (k : ℕ) → k < 64 → rank_in (ranked_in x k) ≡ k
+ranked_rank x k h = mod-eq_of_lt h
 
 -- ---- what stays as it was
 
@@ -41,8 +53,10 @@ moves_set lo hi c v p lc ch = record {
   long = length-set p c v;
 }
 
-pub told_there : (c a h : ℕ) (p : Links) → c < length p → Told (tell p c a h) c a h
-told_there c a h p cl = let e = get_or-set_same p c (told_in a h) untold cl in (ap above_in e, ap begins_in e)
+pub told_there : (c a h : ℕ) (p : Links) → c < length p → a < 1024 → h < 1024 → Told (tell p c a h) c a h
+told_there c a h p cl la lh =
+    let e = get_or-set_same p c (told_in a h) untold cl in
+    (ap above_in e ∙ told_above a h la, ap begins_in e ∙ told_begins a h lh)
 
 told_kept : (p d : Links) (i a h : ℕ) → get_or d i untold ≡ get_or p i untold → Told p i a h → Told d i a h
 told_kept p d i a h e w = (ap above_in e ∙ w.0, ap begins_in e ∙ w.1)
@@ -71,9 +85,14 @@ planned_kept p d s (repeat b lower upper) a h f w = (
   planned_kept p d s b _ h (λ j u v. f j u (omega arith)) w.1,
 )
 
+small_right : (b : Bool) (h y : ℕ) → h < 1024 → y < 1024 → cond b h y < 1024
+small_right true h y l m = l
+small_right false h y l m = m
+
 -- ---- the downward pass over a part
 
-module _ (nodes : Nodes) (nulls : List Bool) (n : ℕ) (most : n ≤ 512) (known : TellsNulls (held nodes) nulls n) where
+module _ (nodes : Nodes) (nulls : List Bool) (n : ℕ) (most : n ≤ 512) (few : (i : ℕ) → i < n → repeats_below (held nodes) i < 64)
+    (known : TellsNulls (held nodes) nulls n) where
   -- the links from s on and before t have the ranks of their nodes
   abbrev Ranks : Links → ℕ → ℕ → Type 0
   Ranks p s t = (j : ℕ) → s ≤ j → j < t → rank_at p j ≡ repeats_below (held nodes) j
@@ -92,6 +111,7 @@ module _ (nodes : Nodes) (nulls : List Bool) (n : ℕ) (most : n ≤ 512) (known
   rank_there : (p d : Links) (i : ℕ) → i < n → length p ≡ 512 → get_or d i untold ≡ get_or (rank_to p i (rank i)) i untold → rank_at d i ≡ rank i
   rank_there p d i l long e =
       ap rank_in (e ∙ get_or-set_same p i (ranked_in (get_or p i untold) (rank i)) untold (omega arith))
+      ∙ ranked_rank (get_or p i untold) (rank i) (few i l)
 
   visit_as : (p : Links) (i : ℕ) (m : Node) → held nodes i ≡ m → visit nodes nulls p i ≡ link_with m nulls (rank_to p i (rank i)) i
   visit_as p i m e = ap (λ (x : Node). link_with x nulls (rank_to p i (rank i)) i) e
@@ -115,6 +135,7 @@ module _ (nodes : Nodes) (nulls : List Bool) (n : ℕ) (most : n ≤ 512) (known
   down_pair : (s : ℕ) (l r : Expr) (a h al hl ar hr : ℕ) (p : Links) → s + size l + size r < n → length p ≡ 512
       → Told p (s + size l + size r) a h
       → visit nodes nulls p (s + size l + size r) ≡ tell (tell (rank_to p (s + size l + size r) (rank (s + size l + size r))) (root s l) al hl) (root (s + size l) r) ar hr
+      → al < 1024 → hl < 1024 → ar < 1024 → hr < 1024
       → ((d : Links) → length d ≡ 512 → Told d (root (s + size l) r) ar hr → DownTo d (s + size l) r ar hr)
       → ((d : Links) → length d ≡ 512 → Told d (root s l) al hl → DownTo d s l al hl)
       → (d : Links)
@@ -124,7 +145,7 @@ module _ (nodes : Nodes) (nulls : List Bool) (n : ℕ) (most : n ≤ 512) (known
       × Planned d (s + size l) r ar hr
       × Ranks d s (s + (size l + size r + 1))
       × Moves s (s + (size l + size r + 1)) p d
-  down_pair s l r a h al hl ar hr p fit long told same right left =
+  down_pair s l r a h al hl ar hr p fit long told same sal shl sar shr right left =
       let i = s + size l + size r in
       let zl = root-size s l in
       let zr = root-size (s + size l) r in
@@ -140,10 +161,10 @@ module _ (nodes : Nodes) (nulls : List Bool) (n : ℕ) (most : n ≤ 512) (known
       let long0 : length p0 ≡ 512 = m0.long ∙ long in
       let long1 : length p1 ≡ 512 = m1.long ∙ long0 in
       let long2 : length p2 ≡ 512 = m2.long ∙ long1 in
-      let v = right p2 long2 (told_there (root (s + size l) r) ar hr p1 (omega arith)) in
+      let v = right p2 long2 (told_there (root (s + size l) r) ar hr p1 (omega arith) sar shr) in
       let told_left : Told p2 (root s l) al hl =
       told_kept p1 p2 (root s l) al hl (get_or-set_other p1 (root (s + size l) r) (root s l) _ untold (omega arith))
-      (told_there (root s l) al hl p0 (omega arith)) in
+      (told_there (root s l) al hl p0 (omega arith) sal shl) in
       let w =
       left v.after (v.moves.long ∙ long2)
       (told_kept p2 v.after (root s l) al hl (v.moves.kept (root s l) (inl (omega arith))) told_left) in
@@ -166,15 +187,15 @@ module _ (nodes : Nodes) (nulls : List Bool) (n : ℕ) (most : n ≤ 512) (known
       )
 
   -- the downward pass tells a part's nodes what stands above them
-  pub down_part : (s : ℕ) (e : Expr) (a h : ℕ) (p : Links) → Stands (held nodes) s e → s + size e ≤ n
+  pub down_part : (s : ℕ) (e : Expr) (a h : ℕ) (p : Links) → Stands (held nodes) s e → s + size e ≤ n → a < 1024 → h < 1024
       → length p ≡ 512 → Told p (root s e) a h → DownTo p s e a h
-  down_part s empty a h p st fit long told =
+  down_part s empty a h p st fit sa sh long told =
       let w = down_leaf s a h p (omega arith) long told (visit_as p s _ st) in
       record { after = w.0; rest = w.1; planned = w.2; ranks = w.3; moves = w.4 }
-  down_part s (event c) a h p st fit long told =
+  down_part s (event c) a h p st fit sa sh long told =
       let w = down_leaf s a h p (omega arith) long told (visit_as p s _ st) in
       record { after = w.0; rest = w.1; planned = w.2; ranks = w.3; moves = w.4 }
-  down_part s (choice l r) a h p st fit long told =
+  down_part s (choice l r) a h p st fit sa sh long told =
       let i = s + size l + size r in
       let z = root-size (s + size l) r in
       let before : i - 1 ≡ root (s + size l) r = omega arith in
@@ -186,11 +207,11 @@ module _ (nodes : Nodes) (nulls : List Bool) (n : ℕ) (most : n ≤ 512) (known
       ∙ ap (λ (y : ℕ). tell (tell q (root s l) y (begins_at q i)) (root (s + size l) r) y (begins_at q i)) here.0
       ∙ ap (λ (y : ℕ). tell (tell q (root s l) a y) (root (s + size l) r) a y) here.1 in
       let w =
-      down_pair s l r a h a h a h p (omega arith) long told same
-      (λ d rd td. down_part (s + size l) r a h d st.1 (omega arith) rd td)
-      (λ d rd td. down_part s l a h d st.0 (omega arith) rd td) in
+      down_pair s l r a h a h a h p (omega arith) long told same sa sh sa sh
+      (λ d rd td. down_part (s + size l) r a h d st.1 (omega arith) sa sh rd td)
+      (λ d rd td. down_part s l a h d st.0 (omega arith) sa sh rd td) in
       record { after = w.0; rest = w.1; planned = (w.2, w.3, w.4); ranks = w.5; moves = w.6 }
-  down_part s (sequence l r) a h p st fit long told =
+  down_part s (sequence l r) a h p st fit sa sh long told =
       let i = s + size l + size r in
       let z = root-size (s + size l) r in
       let zl = root-size s l in
@@ -205,12 +226,13 @@ module _ (nodes : Nodes) (nulls : List Bool) (n : ℕ) (most : n ≤ 512) (known
       ∙ ap (λ (x : ℕ). tell (tell q (root s l) i (begins_at q i)) y x (begins_right (get_or nulls (root s l) false) (begins_at q i) y)) here.0
       ∙ ap (λ (x : ℕ). tell (tell q (root s l) i x) y a (begins_right (get_or nulls (root s l) false) x y)) here.1
       ∙ ap (λ (x : Bool). tell (tell q (root s l) i h) y a (cond x h y)) empties in
+      let sr = small_right (nullable l) h y sh (omega arith) in
       let w =
-      down_pair s l r a h i h a (cond (nullable l) h y) p (omega arith) long told same
-      (λ d rd td. down_part (s + size l) r a (cond (nullable l) h y) d st.1 (omega arith) rd td)
-      (λ d rd td. down_part s l i h d st.0 (omega arith) rd td) in
+      down_pair s l r a h i h a (cond (nullable l) h y) p (omega arith) long told same (omega arith) sh sa sr
+      (λ d rd td. down_part (s + size l) r a (cond (nullable l) h y) d st.1 (omega arith) sa sr rd td)
+      (λ d rd td. down_part s l i h d st.0 (omega arith) (omega arith) sh rd td) in
       record { after = w.0; rest = w.1; planned = (w.2, w.3, w.4); ranks = w.5; moves = w.6 }
-  down_part s (repeat b lower upper) a h p st fit long told =
+  down_part s (repeat b lower upper) a h p st fit sa sh long told =
       let i = s + size b in
       let z = root-size s b in
       let zs = part_start s b in
@@ -224,7 +246,8 @@ module _ (nodes : Nodes) (nulls : List Bool) (n : ℕ) (most : n ≤ 512) (known
       let m : Moves s i q d = moves_set s i (root s b) _ q (omega arith) (omega arith) in
       let longq : length q ≡ 512 = mq.long ∙ long in
       let w =
-      down_part s b i h d st.0 (omega arith) (m.long ∙ longq) (told_there (root s b) i h q (omega arith)) in
+      down_part s b i h d st.0 (omega arith) (omega arith) sh (m.long ∙ longq)
+      (told_there (root s b) i h q (omega arith) (omega arith) sh) in
       let kept : get_or w.after i untold ≡ get_or q i untold = w.moves.kept i (inr (omega arith)) ∙ m.kept i (inr (omega arith)) in
       record {
         after = w.after;

@@ -1,10 +1,14 @@
--- Where the children of a node stand, and how the pass goes on. Assumes nothing.
+-- What a link is, where the children of a node stand, and how the pass goes on. Assumes nothing.
 use mathlib.Core.Path.{◌≡◌, sym, ap, ◌∙◌}
+use mathlib.Core.HLevel.{is_prop→PathP}
 use mathlib.Core.Bool.{Bool}
 use mathlib.Core.List.{List}
 use Prim.Native.Nat.{ℕ, suc, ◌-◌, ◌≤◌, ◌<◌}
+use native.Mathlib.Bridge.{le_prop}
+use native.Mathlib.Nat.{mod-eq_of_lt}
 use native.Mathlib.Omega.{arith}
-use lib.ListN.{get_or}
+use lib.ListN.{get_or, length, set}
+use Rattle.std.proofs.lemmas.List.{get_or_default}
 use Rattle.meaning.specs.Node.{is_repeat, repeats_below}
 use Rattle.meaning.proofs.File.Ranks.{more_below}
 use Rattle.procedure.specs.declared.node.Node.TheVariants as entry
@@ -12,8 +16,36 @@ use Rattle.procedure.specs.Entry.{Entry, Nodes, held, kind_of, left_of, record_o
 use Rattle.procedure.specs.Listing.{OneOf}
 use Rattle.procedure.proofs.Nodes.{one_ordered, one_small}
 use Rattle.procedure.proofs.Standing.{last_order, left_lower}
-use Rattle.plan.specs.Link.{Links}
-use Rattle.plan.specs.Filling.{down, link_with, rank_to}
+use Rattle.plan.specs.Link.{Link, Links, above_in, begins_in, ranked_in, told_in, untold}
+use Rattle.plan.specs.Filling.{down, link_with, rank_to, tell}
+
+-- ---- a link is its numbers
+
+same_link : (x y : Link) → x.above ≡ y.above → x.begins ≡ y.begins → x.rank ≡ y.rank → x ≡ y
+same_link x y a b r = λ i. record {
+  above = a i;
+  begins = b i;
+  rank = r i;
+  above_small = is_prop→PathP (λ j. a j < 1024) (λ j. le_prop) x.above_small y.above_small i;
+  begins_small = is_prop→PathP (λ j. b j < 1024) (λ j. le_prop) x.begins_small y.begins_small i;
+  rank_small = is_prop→PathP (λ j. r j < 64) (λ j. le_prop) x.rank_small y.rank_small i;
+}
+
+-- a link with the numbers told is put at node c
+pub told_at : (p : Links) (c : ℕ) (x : Link) → {above begins : ℕ} → above < 1024 → begins < 1024
+    → x.above ≡ above → x.begins ≡ begins → x.rank ≡ 0 → set p c x ≡ tell p c above begins
+told_at p c x {above} {begins} a b ea eb er =
+    ap (set p c) (same_link x (told_in above begins) (ea ∙ sym (mod-eq_of_lt a)) (eb ∙ sym (mod-eq_of_lt b)) er)
+
+-- the link of node i, whose rank alone is another, is put back
+pub ranked_at : (p : Links) (i : ℕ) (x y : Link) → {rank : ℕ} → i < length p → rank < 64
+    → x.above ≡ above_in (get_or p i y) → x.begins ≡ begins_in (get_or p i y) → x.rank ≡ rank → set p i x ≡ rank_to p i rank
+ranked_at p i x y {rank} l k ea eb er =
+    let same = get_or_default p i y untold l in
+    ap (set p i)
+    (same_link x (ranked_in (get_or p i untold) rank) (ea ∙ ap above_in same) (eb ∙ ap begins_in same) (er ∙ sym (mod-eq_of_lt k)))
+
+-- ---- the children of a node
 
 -- one of the nodes stands before a node that is no leaf
 some_before : {nodes : Nodes} (i k : ℕ) → OneOf nodes i → k ≡ kind_of (held nodes i) → 2 ≤ k → 1 ≤ i

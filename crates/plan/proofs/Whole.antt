@@ -31,9 +31,9 @@ plans_made {nodes} {starts} {nulls} {repeats} p {d} {f} {n} {r} {e} long t ed ef
     let counted = t.ranked.counted in
     let few = t.few_repeats in
     let w =
-    down_part nodes nulls n most t.empties 0 e top (root 0 e) first l.stands (omega arith)
-    (length-set p (root 0 e) (told_in top (root 0 e)) ∙ long)
-    (told_there (root 0 e) top (root 0 e) p (omega arith)) in
+    down_part nodes nulls n most (λ i h. omega (arith, below_rises (held nodes) i n (omega arith))) t.empties 0 e top (root 0 e) first
+    l.stands (omega arith) (omega arith) (omega arith) (length-set p (root 0 e) (told_in top (root 0 e)) ∙ long)
+    (told_there (root 0 e) top (root 0 e) p (omega arith) (omega arith) (omega arith)) in
     let whole : 0 + size e ≡ n = omega arith in
     let done : w.after ≡ f =
     sym w.rest ∙ ap (down nodes nulls first) whole ∙ ap (λ (y : ℕ). down nodes nulls (tell p y top y) n) (sym last)

@@ -1,9 +1,12 @@
 -- How the plan is filled, downward from the root. A model of our code, and no promise.
 use Rattle.std.specs.Prelude.{Bool, false, cond, List, ℕ, zero, suc, ◌-◌, eqb, ltb, get_or, set}
 use Rattle.meaning.specs.Node.{Node, repeats_below}
+use Rattle.meaning.specs.Expr.{Expr}
+use Rattle.procedure.specs.declared.Procedure.{Procedure}
 use Rattle.procedure.specs.Entry.{Nodes, held, kind_of, left_of}
+use Rattle.procedure.specs.Listing.{Tables}
 use Rattle.plan.specs.Link.{Links, ranked_in, told_in, untold}
-use Rattle.plan.specs.Plan.{above_at, begins_at}
+use Rattle.plan.specs.Plan.{above_at, begins_at, Plans}
 
 -- node c is told what stands above it
 abbrev pub tell : Links → ℕ → ℕ → ℕ → Links
@@ -34,3 +37,11 @@ visit nodes nulls plan i = link_with (held nodes i) nulls (rank_to plan i (repea
 abbrev pub down : Nodes → List Bool → Links → ℕ → Links
 down nodes nulls plan zero = plan
 down nodes nulls plan (suc i) = down nodes nulls (visit nodes nulls plan i) i
+
+-- the procedure is the expression, by these tables of starts and repeats, whatever those that it holds
+abbrev pub TablesBy : Procedure → List ℕ → List ℕ → Expr → Type 0
+TablesBy p starts repeats e = Tables p.nodes starts p.nulls repeats p.count p.repeat_count e
+
+-- and the links are those of its plan
+abbrev pub PlansBy : Procedure → List ℕ → Links → Expr → Type 0
+PlansBy p starts links e = Plans p.nodes starts p.nulls links p.count e

@@ -1,7 +1,6 @@
 -- What is known of any plan: what its links say, and that they lead upward. A model of our code, and no promise.
 use Rattle.std.specs.Prelude.{◌≡◌, List, ℕ, ◌≤◌, ◌<◌, get_or}
-use Rattle.meaning.specs.Codes.{most_code}
-use Rattle.procedure.specs.Entry.{Nodes, held, code_of, kind_of}
+use Rattle.procedure.specs.Entry.{Nodes, held, kind_of}
 use Rattle.plan.specs.Link.{Links, above_in, begins_in, rank_in, untold}
 
 abbrev pub above_at : Links → ℕ → ℕ
@@ -30,7 +29,3 @@ pub record Leads (nodes : Nodes) (starts : List ℕ) (plan : Links) (i : ℕ) : 
 -- so it does from each of the n nodes
 abbrev pub Rises : Nodes → List ℕ → Links → ℕ → Type 0
 Rises nodes starts plan n = (i : ℕ) → i < n → Leads nodes starts plan i
-
--- the code of each event among the n nodes is one that the table allows
-abbrev pub Coded : Nodes → ℕ → Type 0
-Coded nodes n = (i : ℕ) → i < n → kind_of (held nodes i) ≡ 1 → code_of (held nodes i) ≤ most_code

@@ -1,12 +1,12 @@
 // The plan of a procedure, filled once a call: downward from the root, each node tells its children what stands above them.
-ghost use Rattle.std.specs.Prelude.{◌≡◌, ◌≤◌, ◌<◌};
+ghost use Rattle.std.specs.Prelude.{◌≡◌, List, ℕ, ◌≤◌, ◌<◌};
 ghost use Rattle.meaning.specs.Expr.{Expr};
 ghost use Rattle.meaning.specs.Node.{is_repeat, repeats_below};
 ghost use Rattle.procedure.specs.Entry.{held, record_of};
 ghost use Rattle.procedure.specs.Listing.{Listing, OneOf};
 ghost use Rattle.procedure.specs.Opening.{IsOf};
 ghost use Rattle.plan.specs.Plan.{PlanOf};
-ghost use Rattle.plan.specs.Filling.{down, link_with, tell};
+ghost use Rattle.plan.specs.Filling.{PlansBy, TablesBy, down, link_with, tell};
 
 use crate::Plan;
 use crate::link::Link;
@@ -26,7 +26,9 @@ fn is_repeat(node: Node) -> usize
 
 // Node c is told what stands above it.
 fn tell(links: &mut [Link; MOST_NODES], c: usize, above: u16, begins: u16)
-    requires { c < 512 }
+    requires c_bound { c < 512 }
+    requires above_bound { above < 1024 }
+    requires begins_bound { begins < 1024 }
     ensures { links.new ≡ tell links.old c above begins }
 {
     links[c] = Link {
@@ -78,6 +80,16 @@ fn fill_down(procedure: &Procedure, links: &mut [Link; MOST_NODES])
     }
 }
 
+// The links become those of the procedure's plan, whatever its tables of starts and repeats are.
+pub fn fill_links(procedure: &Procedure, links: &mut [Link; MOST_NODES])
+    requires { (starts : List ℕ) × (repeats : List ℕ) × (e : Expr) × TablesBy procedure.now starts repeats e }
+    ensures { (starts : List ℕ) (repeats : List ℕ) (e : Expr) → TablesBy procedure.now starts repeats e → PlansBy procedure.now starts links.new e }
+{
+    let root = procedure.count - 1;
+    tell(links, root, TOP, root as u16);
+    fill_down(procedure, links);
+}
+
 impl<'a> Plan<'a> {
     // The plan of the procedure, by the links, which are filled.
     pub fn fill(procedure: &'a Procedure, links: &'a mut [Link; MOST_NODES]) -> Plan<'a>
@@ -85,9 +97,7 @@ impl<'a> Plan<'a> {
         ensures same { result.procedure.now ≡ procedure.now }
         ensures plans { (e : Expr) → IsOf procedure.now e → PlanOf result e }
     {
-        let root = procedure.count - 1;
-        tell(links, root, TOP, root as u16);
-        fill_down(procedure, links);
+        fill_links(procedure, links);
         Plan { procedure, links }
     }
 }

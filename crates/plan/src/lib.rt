@@ -5,10 +5,11 @@ use link::Link;
 use procedure::{MOST_NODES, Procedure};
 
 pub mod link; // link.rt: what the plan says of a node
-mod fill; // fill.rt: the plan, filled once a call
+pub mod fill; // fill.rt: the plan, filled once a call
 
-ghost use Rattle.std.specs.Prelude.{◌≤◌};
-ghost use Rattle.plan.specs.Rising.{Coded, Rises};
+ghost use Rattle.std.specs.Prelude.{◌≡◌, ◌≤◌, ◌<◌, get_or};
+ghost use Rattle.plan.specs.Link.{untold};
+ghost use Rattle.plan.specs.Rising.{Rises};
 
 // A procedure and the links of its nodes.
 #[derive(Clone, Copy)]
@@ -17,10 +18,16 @@ pub struct Plan<'a> {
     pub links: &'a [Link; MOST_NODES],
     ghost some: { 1 ≤ procedure.now.count },
     ghost few: { procedure.now.count ≤ 512 },
-    // The code of each event keeps to the table.
-    ghost coded: { Coded procedure.now.nodes procedure.now.count },
     // From each node the links lead upward, to a part that begins no later, and to its counters.
     ghost rises: { Rises procedure.now.nodes procedure.now.starts links.now procedure.now.count },
+}
+
+// The link of node x.
+fn link_of(links: &[Link; MOST_NODES], x: usize) -> Link
+    requires { x < 512 }
+    ensures { result ≡ get_or links.now x untold }
+{
+    links[x]
 }
 
 impl Plan<'_> {
@@ -30,17 +37,19 @@ impl Plan<'_> {
     // The next node above x that matters on the way up; past the last node where there is none.
     pub fn above(&self, x: usize) -> usize
         requires { x < 512 }
-        ensures { result ≡ above_at self.now.links.now x }
+        ensures value { result ≡ above_at self.now.links.now x }
+        ensures upper_bound { result < 1024 }
     {
-        usize::from(self.links[x].above)
+        usize::from(link_of(self.links, x).above)
     }
 
     // How many repeats stand below node x.
     pub fn rank(&self, x: usize) -> usize
         requires { x < 512 }
-        ensures { result ≡ rank_at self.now.links.now x }
+        ensures value { result ≡ rank_at self.now.links.now x }
+        ensures upper_bound { result < 64 }
     {
-        usize::from(self.links[x].rank)
+        usize::from(link_of(self.links, x).rank)
     }
 
     // Whether the part of node y can begin with event node q.
@@ -50,6 +59,6 @@ impl Plan<'_> {
     {
         usize::from(self.procedure.starts[y]) <= q
             && q <= y
-            && y <= usize::from(self.links[q].begins)
+            && y <= usize::from(link_of(self.links, q).begins)
     }
 }

@@ -16,7 +16,7 @@ use Rattle.procedure.specs.Entry.{kind_of, left_of, lower_of}
 use Rattle.procedure.specs.Listing.{NullAt, TellsNulls}
 use Rattle.procedure.proofs.Standing.{at_leaf, at_choice, at_sequence, at_repeat, last_order}
 
-zero_test : (n : ℕ) → eqb n 0 ≡ is_zero n
+pub zero_test : (n : ℕ) → eqb n 0 ≡ is_zero n
 zero_test zero = eq-eqb 0 0 refl
 zero_test (suc n) = ne_eqb (suc n) 0 (λ e. omega arith)
 

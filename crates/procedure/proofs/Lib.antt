@@ -3,6 +3,7 @@
 pub mod Counting
 pub mod Deciding
 pub mod Empties
+pub mod Limits
 pub mod Nodes
 mod Openings
 pub mod Orders

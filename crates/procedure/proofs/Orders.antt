@@ -108,6 +108,12 @@ shape g s (repeat b lower upper) p =
 shaped : (g : ℕ → Node) (i : ℕ) → InOrder g i → Shape g i
 shaped g i o = subst (Shape g) o.3 (shape g o.0 o.1 o.2)
 
+pub childless : (g : ℕ → Node) (i : ℕ) → 2 ≤ kind_of (g i) → i < 1 → ¬ InOrder g i
+childless g i h l o = ⊎_elim (λ p. omega arith) (⊎_elim (λ p. omega arith) (λ p. omega (arith, p.0))) (shaped g i o)
+
+pub body_off : (g : ℕ → Node) (i : ℕ) → kind_of (g i) ≡ 4 → ¬ (body_of (g i) ≡ i - 1) → ¬ InOrder g i
+body_off g i k h o = ⊎_elim (λ p. omega arith) (⊎_elim (λ p. h p.2) (λ p. omega (arith, p.1))) (shaped g i o)
+
 -- the numbers of a node with two children
 numbers : (n : Node) (left right : ℕ) → TwoChildren n left right → (2 ≤ kind_of n) × (kind_of n < 4) × (left_of n ≡ left) × (right_of n ≡ right)
 numbers n left right two = ⊎_elim (λ e. rw e (omega arith, omega arith, refl, refl)) (λ e. rw e (omega arith, omega arith, refl, refl)) two

@@ -30,7 +30,7 @@ fn start_of(nodes: &[Node; MOST_NODES], starts: &[u16; MOST_NODES], i: usize) ->
             if before < 1 || left != before - 1 {
                 return None;
             }
-            Some(usize::from(starts[usize::from(left)]))
+            Some(usize::from(starts[usize::from(before - 1)]))
         }
     }
 }

@@ -65,6 +65,9 @@ module _ {plan : Plan} {p q : ℕ} (set : Codes) where
 
 -- ---- the nodes passed
 
+pub codes_none : {plan : Plan} {p : ℕ} {set : Codes} → ((c : ℕ) → ¬ Contains set c) → CodesNear plan p 0 set
+codes_none none = record { holds = λ e t pl same c. (λ h. absurd (none c h), λ f. absurd (omega (arith, f.1))) }
+
 pub codes_more : {plan : Plan} {p i : ℕ} {set own : Codes} (all : Codes) → CodesNear plan p i set → CodeNear plan p i own
     → ((c : ℕ) → Contains all c ↔ (Contains set c ⊎ Contains own c)) → CodesNear plan p (i + 1) all
 codes_more {plan} {p} {i} {set} {own} all below here either = record {

@@ -5,9 +5,10 @@ use mathlib.Core.Bool.{Bool, true, false, cond, ◌&&◌, So, false≢true}
 use mathlib.Core.List.{List}
 use Prim.Native.Nat.{ℕ, ◌+◌, ◌-◌, ◌≤◌, ◌<◌}
 use native.Mathlib.Omega.{arith}
+use borrow.Author.Tests.{le-leb, lt-leb}
 use lib.Dec.{eqb}
 use lib.ListN.{get_or}
-use Rattle.meaning.specs.Expr.{Expr, empty, event, choice, sequence, repeat, Upper, size, root}
+use Rattle.meaning.specs.Expr.{Expr, empty, event, choice, sequence, repeat, Upper, upto, endless, Within, size, root}
 use Rattle.meaning.specs.Loose.{many}
 use Rattle.meaning.specs.Node.{Node, Stands}
 use Rattle.meaning.specs.Normal.{nullable}
@@ -17,6 +18,7 @@ use Rattle.meaning.specs.Theory.Ways.{Entry, enters, apart, entry, Way, turns, e
 use Rattle.meaning.proofs.Expressions.Parts.{root-size}
 use Rattle.procedure.specs.Entry.{Nodes, held, kind_of}
 use Rattle.procedure.specs.Listing.{TellsNulls, TellsStarts}
+use Rattle.procedure.specs.Tests.{Decides}
 use Rattle.procedure.proofs.Empties.{null_of_part}
 use Rattle.procedure.proofs.Orders.{start_of_part}
 use Rattle.plan.specs.declared.Plan.{Plan}
@@ -47,6 +49,13 @@ opens_behind true (open_at a) = open_at a
 opens_behind false (open_at a) = closed
 opens_behind true closed = closed
 opens_behind false closed = closed
+
+-- the test for a second block
+pub again_many : (upper : Upper) (b : Bool) → Decides (Within 2 upper) b → b ≡ many upper
+again_many endless true d = refl
+again_many endless false d = absurd (d tt)
+again_many (upto n) true d = sym (le-leb 2 n d)
+again_many (upto n) false d = sym (lt-leb 2 n (omega arith))
 
 module _ (plan : Plan) (q : ℕ) where
   abbrev nodes : Nodes

@@ -23,17 +23,22 @@ use Rattle.codes.proofs.Pairs.{words_set}
 use Rattle.procedure.specs.declared.Procedure.{Procedure}
 use Rattle.procedure.specs.Entry.{held, kind_of}
 use Rattle.procedure.specs.Opening.{IsOf}
+use Rattle.procedure.proofs.Nodes.{event_kept}
 use Rattle.plan.specs.declared.Plan.{Plan}
 use Rattle.plan.specs.Plan.{PlanOf}
 use Rattle.states.specs.declared.standing.Standing.{Standing}
 use Rattle.states.specs.StateBytes.{Decoded, place_of}
 use Rattle.states.specs.Standing.{AtSpot, ReadOf}
 use Rattle.states.proofs.Readiness.{listing_bounded, read_spot, tables_repeats}
-use Rattle.prompt.specs.Near.{EventReached, LitAt}
+use Rattle.prompt.specs.Near.{Coded, EventReached, LitAt}
 
 -- ---- the state read
 
 module _ {p : Procedure} {e : Expr} (is : IsOf p e) where
+  -- what was read keeps to the table
+  pub codes_kept : Coded p
+  codes_kept i h = event_kept (held p.nodes i) (is.listing.table i h)
+
   stood_event : (k : Spot e) (reached : Option ℕ) (counts : List ℕ) → AtSpot e k (place_of reached) counts → EventReached p reached
   stood_event k None counts s = tt
   stood_event start (Some i) counts s = absurd (omega (arith, s.0))

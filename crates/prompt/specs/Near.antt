@@ -1,7 +1,8 @@
 -- Which event nodes can directly follow one another in the loosened procedure, and the codes to light. A model of our code, and no promise.
-use Rattle.std.specs.Prelude.{◌≡◌, ◌↔◌, Option, Some, None, Bool, true, false, cond, ◌&&◌, ℕ, ◌-◌, ◌<◌, eqb, get_or}
+use Rattle.std.specs.Prelude.{◌≡◌, ◌↔◌, Option, Some, None, Bool, true, false, cond, ◌&&◌, ℕ, ◌-◌, ◌≤◌, ◌<◌, eqb, get_or}
 use Rattle.std.proofs.Math.Bool.{So}
 use Rattle.codes.specs.Codes.{Codes, Contains}
+use Rattle.meaning.specs.Codes.{most_code}
 use Rattle.meaning.specs.Expr.{Expr, event, Part}
 use Rattle.meaning.specs.Node.{Node, bound}
 use Rattle.meaning.specs.Loose.{many}
@@ -9,7 +10,7 @@ use Rattle.meaning.specs.Promises.{Lights}
 use Rattle.meaning.specs.Theory.Near.{Near}
 use Rattle.meaning.specs.Theory.Places.{Place, node_of}
 use Rattle.procedure.specs.declared.Procedure.{Procedure}
-use Rattle.procedure.specs.Entry.{held, kind_of, upper_of}
+use Rattle.procedure.specs.Entry.{held, code_of, kind_of, upper_of}
 use Rattle.plan.specs.declared.Plan.{Plan}
 use Rattle.plan.specs.Plan.{PlanOf, begins_of}
 
@@ -37,6 +38,10 @@ pub record CodeNear (plan : Plan) (p q : ℕ) (set : Codes) : Type 0 where
 pub record CodesNear (plan : Plan) (p i : ℕ) (set : Codes) : Type 0 where
   pub holds : (e : Expr) (t : Place e) → PlanOf plan e → node_of 0 e t ≡ p
       → (c : ℕ) → Contains set c ↔ ((q : ℕ) × (q < i) × Near 0 e t q × Part 0 e q (event c))
+
+-- the code of each event keeps to the table
+abbrev pub Coded : Procedure → Type 0
+Coded p = (i : ℕ) → i < p.count → kind_of (held p.nodes i) ≡ 1 → code_of (held p.nodes i) ≤ most_code
 
 -- what a run can have reached: nothing yet, or an event node
 abbrev pub EventReached : Procedure → Option ℕ → Type 0

@@ -9,7 +9,7 @@ ghost use Rattle.meaning.specs.Sets.{First};
 ghost use Rattle.procedure.specs.Opening.{IsOf};
 ghost use Rattle.sets.specs.Tables.{TellsSets};
 ghost use Rattle.states.specs.StateBytes.{place_of};
-ghost use Rattle.prompt.specs.Near.{CodeNear, EventReached, LitAt};
+ghost use Rattle.prompt.specs.Near.{CodeNear, Coded, EventReached, LitAt};
 
 use crate::near;
 use codes::Codes;
@@ -21,6 +21,7 @@ use states::reached;
 
 // The code of node q, where that is an event that can directly follow event node p; and else no code.
 fn code_near(plan: &Plan, p: usize, q: usize) -> Codes
+    requires coded { Coded plan.now.procedure.now }
     requires p_lt_n { p < plan.now.procedure.now.count }
     requires q_lt_n { q < plan.now.procedure.now.count }
     ensures { CodeNear plan.now p q result }
@@ -38,6 +39,7 @@ fn code_near(plan: &Plan, p: usize, q: usize) -> Codes
 
 // After event node p.
 fn lit_after(plan: &Plan, p: usize) -> Codes
+    requires coded { Coded plan.now.procedure.now }
     requires p_lt_n { p < plan.now.procedure.now.count }
     requires p_value { kind_of (held plan.now.procedure.now.nodes p) ≡ 1 }
     ensures { LitAt plan.now (p + 1) result }
@@ -51,6 +53,7 @@ fn lit_after(plan: &Plan, p: usize) -> Codes
 
 // After the event node reached, or at the start.
 fn lit(plan: &Plan, firsts: &[Codes; MOST_NODES], reached: Option<usize>) -> Codes
+    requires coded { Coded plan.now.procedure.now }
     requires tells_sets { TellsSets First (held plan.now.procedure.now.nodes) firsts.now plan.now.procedure.now.count }
     requires event { EventReached plan.now.procedure.now reached }
     ensures { LitAt plan.now (place_of reached) result }

@@ -1,11 +1,12 @@
 -- What is worked out of a node, from what is known of its children. Each law ends in what a combiner promises. Assumes nothing.
-use mathlib.Core.Bool.{Bool, true, false, So, false≢true, not}
+use mathlib.Core.Bool.{Bool, true, false, So, false≢true, true≢false, not}
 use mathlib.Core.Logic.Iff
-use mathlib.Core.Logic.{◌↔◌, ◌⊎◌, inl, inr, ⊎_elim, ⊎_map}
+use mathlib.Core.Logic.{◌↔◌, ◌⊎◌, inl, ⊎_elim, ⊎_map}
 use mathlib.Core.Path.{◌≡◌, refl, sym, ap, subst₂, ◌∙◌}
 use Prim.Native.Nat.{ℕ}
+use Rattle.std.specs.Prelude.{IsFalse}
 use Rattle.codes.specs.Codes.{Codes, Contains}
-use Rattle.meaning.specs.Expr.{Expr, empty, event, choice, sequence, repeat, Upper}
+use Rattle.meaning.specs.Expr.{Expr, choice, sequence, Upper}
 use Rattle.meaning.specs.Node.{bound}
 use Rattle.meaning.specs.Normal.{nullable, low}
 use Rattle.meaning.specs.Sets.{First, After, Starts, Flexible}
@@ -46,30 +47,11 @@ joins_choice l r first after f a p q x y = record {
 
 -- ---- a sequence
 
--- a code has P, or none does
-abbrev SomeOrNone : (ℕ → Type 0) → Type 0
-SomeOrNone P = ((c : ℕ) × P c) ⊎ ((c : ℕ) → ¬ P c)
-
-some_or : (P Q : ℕ → Type 0) → SomeOrNone P → SomeOrNone Q → SomeOrNone (λ c. P c ⊎ Q c)
-some_or P Q p q = ⊎_elim (λ s. inl (s.0, inl s.1)) (λ n. ⊎_map (λ s. (s.0, inr s.1)) (λ m c. ⊎_elim (n c) (m c)) q) p
-
-some_if : (b : Bool) (P : ℕ → Type 0) → SomeOrNone P → SomeOrNone (λ c. So b × P c)
-some_if true P p = ⊎_map (λ s. (s.0, (refl, s.1))) (λ n c w. n c w.1) p
-some_if false P p = inr (λ c w. false≢true w.0)
-
--- a part begins with some code, or with none
-begins_or_not : (e : Expr) → SomeOrNone (First e)
-begins_or_not empty = inr (λ c f. f)
-begins_or_not (event d) = inl (d, refl)
-begins_or_not (choice l r) = some_or (First l) (First r) (begins_or_not l) (begins_or_not r)
-begins_or_not (sequence l r) =
-    some_or (First l) (λ c. So (nullable l) × First r c) (begins_or_not l) (some_if (nullable l) (First r) (begins_or_not r))
-begins_or_not (repeat b lower upper) = begins_or_not b
-
--- where its first is not empty, it has an event to begin with
-starts_told : (e : Expr) (first : Codes) (none : Bool) → Exactly first (First e) → So none ↔ ((c : ℕ) → ¬ Contains first c) → So (not none) ↔ Starts e
-starts_told e first true f n = (λ o. absurd (false≢true o), λ s. absurd (n.0 refl s.0 ((f s.0).1 s.1)))
-starts_told e first false f n = (λ o. ⊎_elim (λ s. s) (λ never. absurd (false≢true (n.1 (λ c h. never c ((f c).0 h))))) (begins_or_not e), λ s. refl)
+-- where its first has a code, a part has an event to begin with
+starts_told : (e : Expr) (first : Codes) (none : Bool) → Exactly first (First e) → IsFalse none ↔ ((c : ℕ) × Contains first c)
+    → So (not none) ↔ Starts e
+starts_told e first true f some = (λ o. absurd (false≢true o), λ z. absurd (true≢false (some.1 (z.0, (f z.0).1 z.1))))
+starts_told e first false f some = (λ o. let z = some.0 refl in (z.0, (f z.0).0 z.1), λ z. refl)
 
 -- after, where the right part must come
 pub after_right : (l r : PartSets) → r.null ≡ false → EndsWith l r r.after
@@ -81,14 +63,14 @@ after_right l r must p q x y c = (
 
 -- and where it may be empty
 pub after_either : (l r : PartSets) (none : Bool) (follows ended after : Codes) → So r.null
-    → So none ↔ ((c : ℕ) → ¬ Contains l.first c)
+    → IsFalse none ↔ ((c : ℕ) × Contains l.first c)
     → Exactly follows (λ c. So (not none) × Contains r.first c)
     → Exactly ended (λ c. Contains l.after c ⊎ Contains follows c)
     → Exactly after (λ c. Contains r.after c ⊎ Contains ended c)
     → EndsWith l r after
 unfolding EndsWith
-after_either l r none follows ended after may hnone hf he ha p q x y =
-    let starts = starts_told p l.first none x.firsts hnone in
+after_either l r none follows ended after may hsome hf he ha p q x y =
+    let starts = starts_told p l.first none x.firsts hsome in
     let comes : Exactly follows (λ c. Starts p × First q c) = λ c. Iff.trans (hf c) (Iff.and starts (y.firsts c)) in
     let ends : Exactly ended (λ c. After p c ⊎ (Starts p × First q c)) = λ c. Iff.trans (he c) (iff_or (x.afters c) (comes c)) in
     let empty = (may_be_empty y).0 may in

@@ -25,7 +25,7 @@ use Rattle.sets.proofs.Lowest.{Ahead, Either, Same, lowest_either, lowest_same}
 
 -- ---- the conflicts at the nodes below i, and at node i
 
-abbrev BelowNode : ℕ → Conflicts → Conflicts
+abbrev pub BelowNode : ℕ → Conflicts → Conflicts
 BelowNode i R j k c = (j < i) × R j k c
 
 abbrev AtNode : ℕ → Conflicts → Conflicts

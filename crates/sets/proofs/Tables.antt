@@ -24,6 +24,11 @@ module _ (P : Expr → ℕ → Type 0) (g : ℕ → Node) (sets : List Codes) wh
       (λ j l. subst (SetAt P g j) (sym (get_or-set_other sets i j own no_codes (omega arith))) (known j l))
       (subst (SetAt P g i) (sym (get_or-set_same sets i own no_codes h)) here)
 
+  -- what it tells of some nodes it tells of fewer
+  pub sets_fewer : (m n : ℕ) → m ≤ n → TellsSets P g sets n → TellsSets P g sets m
+  unfolding TellsSets
+  sets_fewer m n h told = λ j l. told j (omega arith)
+
   pub set_of_part : (n i s : ℕ) (e : Expr) → TellsSets P g sets n → i < n → Stands g s e → root s e ≡ i → (c : ℕ) → Contains (get_or sets i no_codes) c ↔ P e c
   unfolding TellsSets SetAt
   set_of_part n i s e told l = told i l s e

@@ -44,11 +44,13 @@ fn all_fit(procedure: &Procedure, counts: &[u16; MOST_REPEATS], p: usize) -> boo
     true
 }
 
-// Whether the counters from a rank on are 0.
+// Whether the counters from a rank on are 0. Past the last there is none.
 fn clear_from(counts: &[u16; MOST_REPEATS], rank: usize) -> bool
-    requires { rank ≤ 32 }
     ensures { Decides (ClearFrom counts.now rank) result }
 {
+    if MOST_REPEATS < rank {
+        return true;
+    }
     counts[rank..].iter().all(|&count| count == 0)
 }
 

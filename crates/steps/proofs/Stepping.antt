@@ -42,7 +42,7 @@ turned_long nodes begun nulls plan x q c d w =
 
 -- ---- where the way turns
 
-climbs_at : {nodes : Nodes} {begun : List ℕ} {nulls : List Bool} {plan : Links} {counts : List ℕ} {n q y x : ℕ} {r : Turn} → Rises nodes begun plan n → 1 ≤ y → Climbs nodes begun nulls plan counts n q y r → r ≡ At x
+pub climbs_at : {nodes : Nodes} {begun : List ℕ} {nulls : List Bool} {plan : Links} {counts : List ℕ} {n q y x : ℕ} {r : Turn} → Rises nodes begun plan n → 1 ≤ y → Climbs nodes begun nulls plan counts n q y r → r ≡ At x
     → (1 ≤ x) × (x < n)
 climbs_at up h (past l) e = absurd (let z : ◌≡◌ {A = ℕ} 0 1 = cc in omega arith)
 climbs_at {x = x} up h (turns {x = y} l f) e = let same : y ≡ x = cc in (omega arith, omega arith)
@@ -101,6 +101,12 @@ not_turns_stuck e f = let z : ◌≡◌ {A = ℕ} 0 1 = cc in omega arith
 
 not_ends : {A : Type 0} {w : Way A} → w ≡ stuck → w ≡ ends → ⊥
 not_ends e f = let z : ◌≡◌ {A = ℕ} 0 1 = cc in omega arith
+
+pub at_not_ends : {r : Turn} {x : ℕ} → r ≡ At x → r ≡ Ends → ⊥
+at_not_ends e f = let z : ◌≡◌ {A = ℕ} 0 1 = cc in omega arith
+
+pub stuck_not_ends : {r : Turn} → r ≡ Stuck → r ≡ Ends → ⊥
+stuck_not_ends e f = let z : ◌≡◌ {A = ℕ} 0 1 = cc in omega arith
 
 -- ---- the answers of a step
 

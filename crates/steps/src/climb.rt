@@ -64,7 +64,7 @@ fn look_at(plan: &Plan, counts: &[u16; MOST_REPEATS], x: usize, q: usize) -> Loo
     }
 }
 
-// From event node p towards event node q; towards no node with a q from n on.
+// From event node p towards event node q; with a q past the last node, towards no node.
 pub fn climb(plan: &Plan, counts: &[u16; MOST_REPEATS], p: usize, q: usize) -> Turn
     requires { p < plan.now.procedure.now.count }
     ensures { ClimbsBy plan.now counts.now q (above_at plan.now.links.now p) result }

@@ -46,7 +46,7 @@ fn mark_at(plan: &Plan, counts: &mut [u16; MOST_REPEATS], y: usize)
 // The counter of each repeat around event node q and below node x becomes 1.
 pub fn mark(plan: &Plan, counts: &mut [u16; MOST_REPEATS], x: usize, q: usize)
     requires le_n { x ≤ plan.now.procedure.now.count }
-    requires q_lt_n { q < plan.now.procedure.now.count }
+    requires q_bound { q < 512 }
     ensures { MarksBy plan.now x q counts.old counts.new }
 {
     // From link to link, which is no range.
@@ -61,7 +61,7 @@ pub fn mark(plan: &Plan, counts: &mut [u16; MOST_REPEATS], x: usize, q: usize)
 pub fn turn(plan: &Plan, counts: &mut [u16; MOST_REPEATS], x: usize, q: usize)
     requires le_x { 1 ≤ x }
     requires lt_n { x < plan.now.procedure.now.count }
-    requires q_lt_n { q < plan.now.procedure.now.count }
+    requires q_bound { q < 512 }
     ensures { TurnedBy plan.now x q counts.old counts.new }
 {
     clear_part(plan, counts, x);

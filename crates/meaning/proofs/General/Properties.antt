@@ -1,9 +1,10 @@
 -- Numbers that have a property: at most one is the lowest, and they are counted in one way. Assumes nothing.
 use mathlib.Core.Logic.{◌↔◌}
 use mathlib.Core.Path.{◌≡◌, refl, ap, subst}
-use Prim.Native.Nat.{ℕ, zero, suc, ◌≤◌, ◌<◌}
+use Prim.Native.Nat.{ℕ, zero, suc, ◌+◌, ◌≤◌, ◌<◌}
 use native.Mathlib.Decide.{dec_lt}
 use native.Mathlib.Nat.{le_antisymm}
+use native.Mathlib.Numerals.{unary_clauses}
 use native.Mathlib.Omega.{arith}
 use Rattle.meaning.specs.Properties.{Least, CountBelow, none_below, one_more, no_more}
 
@@ -50,6 +51,12 @@ pub count_same : {P Q : ℕ → Type 0} {k n : ℕ} → ((c : ℕ) → c < k →
 count_same e none_below = none_below
 count_same e (one_more k n p a) = one_more k n ((e k (omega arith)).0 p) (count_same (λ c l. e c (omega arith)) a)
 count_same e (no_more k n p a) = no_more k n (λ q. p ((e k (omega arith)).1 q)) (count_same (λ c l. e c (omega arith)) a)
+
+-- the numbers below j, and k numbers from there on
+pub count_joined : {P : ℕ → Type 0} (j : ℕ) {m k n : ℕ} → CountBelow P j m → CountBelow (λ c. P (j + c)) k n → CountBelow P (j + k) (m + n)
+count_joined j a none_below = simp unary_clauses a
+count_joined j {m = m} a (one_more k n p b) = simp unary_clauses (one_more (j + k) (m + n) p (count_joined j a b))
+count_joined j {m = m} a (no_more k n p b) = simp unary_clauses (no_more (j + k) (m + n) p (count_joined j a b))
 
 -- where the property is decided, they can be counted
 unfoldable pub counted : {P : ℕ → Type 0} → ((c : ℕ) → Dec (P c)) → (k : ℕ) → (n : ℕ) × CountBelow P k n

@@ -83,6 +83,10 @@ pub record Gone (e : Expr) (k : Spot e) (events : List ℕ) (i : ℕ) (j : Spot 
 from_here : (events : List ℕ) (i c : ℕ) → i < length events → get_or events i 0 ≡ c → drop i events ≡ c ∷ drop (suc i) events
 from_here events i c h code = subst (λ (b : ℕ). drop i events ≡ b ∷ drop (suc i) events) code (drop-cons events i 0 h)
 
+-- at first none is taken
+pub gone_none : (e : Expr) (k : Spot e) (events : List ℕ) → Gone e k events 0 k
+gone_none e k events = record { onward = λ n l g. subst (λ (m : ℕ). Going e k events m l) (omega arith) g }
+
 -- one more, by a way to an event node with its code
 pub gone_more : (e : Expr) (k j : Spot e) (events : List ℕ) (i c q : ℕ) (t : Place e) → Gone e k events i j → i < length events
     → get_or events i 0 ≡ c → Part 0 e q (event c) → LeadsTo e j q t → Gone e k events (i + 1) (behind t)

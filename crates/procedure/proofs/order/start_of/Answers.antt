@@ -38,4 +38,4 @@ returns-else-left-before c =
     let l = spans_below _ _ _ before in
     pair_spans (held c.args.nodes.now) _ (get_or c.args.starts.now (c.args.i - 1) 0) c.args.i _ _ (⊎_map (ap record_of) (ap record_of) c.in-Choice.is)
     (omega arith) (omega arith) before (omega arith) (omega arith)
-    (rw (c.from-in-Choice-2.ensures, c.from-in-Choice.ensures, c.if-left-before.false) (start_told _ _ c.args.i _ c.requires.tells_starts (omega arith)))
+    (rw (c.from-in-Choice-2.ensures, c.from-in-Choice.ensures) (start_told _ _ c.args.i _ c.requires.tells_starts (omega arith)))

@@ -1,11 +1,14 @@
 -- `prompt::light::light` meets its contract, by what is read of the state.
 use native.Mathlib.Omega.{arith}
 use Rattle.meaning.specs.Promises.{Prompts}
-use Rattle.prompt.proofs.Prompting.{prompts_lit, read_event}
+use Rattle.prompt.proofs.Prompting.{codes_kept, prompts_lit, read_event}
 use Rattle.prompt.proofs.light.light.Goals as goal
 
 pub returns-in_default : goal.returns-in_default
 returns-in_default c = λ f e a is. Prompts.unreached e a (c.in_default.ensures e is)
+
+pub lit-requires-clause-coded : goal.lit-requires-clause-coded
+lit-requires-clause-coded c = rw c.fill-plan.ensures.same (codes_kept c.requires.tables.1)
 
 pub lit-requires-clause-event : goal.lit-requires-clause-event
 lit-requires-clause-event c =

@@ -8,7 +8,10 @@ use Rattle.prompt.proofs.near.near.Goals as goal
 pub loop-x-init : goal.loop-x-init
 loop-x-init c =
     let up = c.args.plan.now.rises c.args.p c.requires.p_lt_n in
-    record { some = omega (arith, c.above-x.ensures); on = λ r. subst (λ (y : ℕ). Nears c.args.plan.now c.args.q y r) c.above-x.ensures }
+    record {
+      some = omega (arith, c.above-x.ensures.value);
+      on = λ r. subst (λ (y : ℕ). Nears c.args.plan.now c.args.q y r) c.above-x.ensures.value;
+    }
 
 pub returns-then-turns_at : goal.returns-then-turns_at
 returns-then-turns_at c =
@@ -32,7 +35,7 @@ loop-x-preserved c =
       on = λ r w.
           c.loop-x.invariant.on r
           (on c.loop-x-test.true (sym c.turns_at.ensures ∙ c.if-turns_at.false) (sym c.passes_at.ensures ∙ c.if-not-passes_at.false)
-          (subst (λ (y : ℕ). Nears c.args.plan.now c.args.q y r) c.above-x-in-loop-x.ensures w));
+          (subst (λ (y : ℕ). Nears c.args.plan.now c.args.q y r) c.above-x-in-loop-x.ensures.value w));
     }
 
 pub returns : goal.returns

@@ -13,8 +13,8 @@ returns-in-Stops c = c.loop-x.invariant.1 _ (stops c.loop-x-test.true (sym c.loo
 pub loop-x-preserved : goal.loop-x-preserved
 loop-x-preserved c =
     let up = c.args.plan.now.rises c.loop-x.x c.loop-x-test.true in (
-      omega (arith, c.above-x-in-On.ensures),
-      λ r w. c.loop-x.invariant.1 r (on c.loop-x-test.true (sym c.look_at.ensures ∙ c.in-On.is) (rw c.above-x-in-On.ensures at w)),
+      omega (arith, c.above-x-in-On.ensures.value),
+      λ r w. c.loop-x.invariant.1 r (on c.loop-x-test.true (sym c.look_at.ensures ∙ c.in-On.is) (rw c.above-x-in-On.ensures.value at w)),
     )
 
 pub returns : goal.returns

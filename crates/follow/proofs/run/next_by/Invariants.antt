@@ -1,4 +1,4 @@
--- `follow::run::next` meets its contract. The loop's invariant: none of the event nodes with the code below this one leads on, and the run
+-- `follow::run::next_by` meets its contract. The loop's invariant: none of the event nodes with the code below this one leads on, and the run
 -- stands as it did. Assumes nothing.
 use Prim.Native.Nat.{◌≤◌}
 use Rattle.meaning.specs.Expr.{Expr}
@@ -7,7 +7,7 @@ use Rattle.plan.specs.Plan.{PlanOf}
 use Rattle.states.specs.StateBytes.{place_of}
 use Rattle.states.specs.Standing.{StandsAt}
 use Rattle.follow.proofs.Running.{Passed}
-use Rattle.follow.proofs.run.next.Given as goal
+use Rattle.follow.proofs.run.next_by.Given as goal
 
 abbrev pub invariant-loop-q : goal.invariant-loop-q
 invariant-loop-q l =
